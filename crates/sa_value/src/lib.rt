@@ -1,0 +1,22 @@
+//! Values of SQL: NULL, numbers and texts, rows of them, and the truth of a comparison.
+//!
+//! Every other crate stands on these types. MariaDB's Knowledge Base describes the rules of truth
+//! under "Comparison Operators" and "NULL Values".
+#![tactic(auto)]
+
+mod comparison;
+mod memory;
+mod row;
+mod text;
+mod truth;
+mod value;
+
+pub use comparison::compare;
+pub use memory::OutOfMemory;
+pub use row::{Row, Rows};
+pub use text::Text;
+pub use truth::{CompareOp, Truth};
+pub use value::{Value, ValueRef};
+
+#[cfg(test)]
+mod tests;
