@@ -1,0 +1,4 @@
+pub mod Cuts
+pub mod Runs
+pub mod Steps
+pub mod Laws

@@ -1,0 +1,5 @@
+pub mod Byte
+pub mod Sign
+pub mod Lexeme
+pub mod Tokens
+pub mod Spans

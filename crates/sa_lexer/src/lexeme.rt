@@ -1,0 +1,138 @@
+ghost use Rattle.std.specs.Prelude.{◌≡◌, ◌+◌, ◌<◌, ◌≤◌, ◌^◌, length, slice_index, IsTrue, IfOk};
+ghost use Rattle.std.specs.Char.{is_ascii_digit};
+ghost use Rattle.std.specs.List.{prefix_len};
+ghost use Rattle.std.specs.Str.{IsCharBoundary, all_ascii_digits};
+ghost use Rattle.std.specs.Str.Parse.{digits_value};
+ghost use Rattle.sa_lexer.specs.Byte.{is_word_byte};
+ghost use Rattle.sa_lexer.specs.Sign.{sign_at};
+ghost use Rattle.sa_lexer.specs.Lexeme.{Gives, word_at, number_at, sign_lexeme, lexeme_at};
+
+use crate::byte::{is_space, is_word_byte};
+use crate::fault::{LexFault, LexKind};
+use crate::sign::Sign;
+use crate::token::TokenKind;
+use sa_value::Text;
+use std::alloc::Global;
+
+/// What a text begins with: a token, or a blank, which has no kind. `len` is how many bytes it takes.
+#[derive(Debug, Drop)]
+pub(crate) struct Lexeme {
+    pub(crate) kind: Option<TokenKind>,
+    pub(crate) len: usize,
+}
+
+/// The most digits that a number may have.
+const MOST_DIGITS: usize = 38;
+
+/// The lexeme that the rest of a text, from `place` on, begins with.
+#[tactic(auto, unfolding(crate::specs::Lexeme::lexeme_at))]
+pub(crate) fn first_lexeme(alloc: Global, rest: &str, place: usize) -> Result<Lexeme, LexFault>
+    requires some { 0 < length rest.now }
+    requires within { place + length rest.now < 2 ^ 64 }
+    ensures exact { Gives result (lexeme_at place rest.now) }
+    ensures some { IfOk result (λ lexeme. 0 < lexeme.len) }
+    ensures cut { IfOk result (λ lexeme. IsCharBoundary rest.now lexeme.len) }
+{
+    let first = rest.as_bytes()[0];
+    if is_space(first) {
+        Ok(Lexeme { kind: None, len: 1 })
+    } else if first.is_ascii_digit() {
+        number(rest, place)
+    } else if is_word_byte(first) {
+        word(alloc, rest)
+    } else {
+        sign(rest, place)
+    }
+}
+
+/// The word at the front, whose first byte is a word's.
+#[tactic(auto, unfolding(crate::specs::Lexeme::word_at))]
+fn word(alloc: Global, rest: &str) -> Result<Lexeme, LexFault>
+    requires some { 0 < length rest.now }
+    requires begins { IsTrue (is_word_byte (slice_index rest.now 0)) }
+    ensures exact { Gives result (Ok (word_at rest.now)) }
+    ensures some { IfOk result (λ lexeme. 0 < lexeme.len) }
+    ensures cut { IfOk result (λ lexeme. IsCharBoundary rest.now lexeme.len) }
+{
+    let len = run_of_word_bytes(rest);
+    let word = Text::from_str(alloc, &rest[..len])?;
+    Ok(Lexeme {
+        kind: Some(TokenKind::Word(word)),
+        len,
+    })
+}
+
+/// The number at the front, whose first byte is a digit.
+#[tactic(auto, unfolding(crate::specs::Lexeme::number_at))]
+fn number(rest: &str, place: usize) -> Result<Lexeme, LexFault>
+    requires some { 0 < length rest.now }
+    requires within { place + length rest.now < 2 ^ 64 }
+    requires begins { IsTrue (is_ascii_digit (slice_index rest.now 0)) }
+    ensures exact { Gives result (number_at place rest.now) }
+    ensures some { IfOk result (λ lexeme. 0 < lexeme.len) }
+    ensures cut { IfOk result (λ lexeme. IsCharBoundary rest.now lexeme.len) }
+{
+    let len = run_of_digits(rest);
+    if len > MOST_DIGITS {
+        return Err(LexFault::Bad {
+            kind: LexKind::NumberTooLong,
+            place,
+        });
+    }
+    if let Some(&after) = rest.as_bytes().get(len)
+        && is_word_byte(after)
+    {
+        return Err(LexFault::Bad {
+            kind: LexKind::BadByte,
+            place: place + len,
+        });
+    }
+    let number = value_of(&rest[..len]);
+    Ok(Lexeme {
+        kind: Some(TokenKind::Number(number)),
+        len,
+    })
+}
+
+/// The sign at the front.
+fn sign(rest: &str, place: usize) -> Result<Lexeme, LexFault>
+    ensures exact { Gives result (sign_lexeme place (sign_at rest.now)) }
+    ensures some { IfOk result (λ lexeme. 0 < lexeme.len) }
+    ensures cut { IfOk result (λ lexeme. IsCharBoundary rest.now lexeme.len) }
+{
+    let Some(sign) = Sign::first(rest.as_bytes()) else {
+        return Err(LexFault::Bad {
+            kind: LexKind::BadByte,
+            place,
+        });
+    };
+    Ok(Lexeme {
+        kind: Some(TokenKind::Sign(sign)),
+        len: sign.spelling().len(),
+    })
+}
+
+/// How many bytes of a word the text begins with. The text may be cut after them.
+fn run_of_word_bytes(rest: &str) -> usize
+    ensures length { result ≡ prefix_len is_word_byte rest.now }
+    ensures cut { IsCharBoundary rest.now result }
+{
+    rest.bytes().take_while(|byte| is_word_byte(*byte)).count()
+}
+
+/// How many digits the text begins with.
+fn run_of_digits(rest: &str) -> usize
+    ensures { result ≡ prefix_len is_ascii_digit rest.now }
+{
+    rest.bytes().take_while(u8::is_ascii_digit).count()
+}
+
+/// The number that up to 38 digits are.
+fn value_of(digits: &str) -> u128
+    requires some { 0 < length digits.now }
+    requires short { length digits.now ≤ 38 }
+    requires digits { IsTrue (all_ascii_digits digits.now) }
+    ensures { result ≡ digits_value 10 digits.now }
+{
+    digits.parse().unwrap()
+}
