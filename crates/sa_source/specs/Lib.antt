@@ -1,2 +1,5 @@
 pub mod Source
 pub mod Sink
+pub mod Calls
+pub mod MemorySource
+pub mod MemorySink
