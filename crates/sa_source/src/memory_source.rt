@@ -50,7 +50,7 @@ impl Source for MemorySource {
 
     ghost faults = { λ source. source.calls.faults };
 
-    #[tactic(auto, using(crate::proofs::Moves::filled))]
+    #[tactic(auto, using(crate::proofs::Buffers::filled))]
     fn read(&mut self, buffer: &mut [u8]) -> Result<usize, Failed>
         ensures counts { self.old.calls.faults ≤ self.new.calls.faults }
         ensures failing { IsErr result ↔ FailsNext self.old.calls }

@@ -6,7 +6,7 @@ abbrev pub invariant-loop-written : goal.invariant-loop-written
 invariant-loop-written g l = record {
   inside : l.written ≤ length l.text;
   counted : g.K.Sink.faults l.initial.sink ≤ g.K.Sink.faults l.sink;
-  took : Appends (g.K.Sink.taken l.initial.sink) (g.K.Sink.taken l.sink) (take l.written l.text)
+  took : Appends (g.K.Sink.taken l.initial.sink) (g.K.Sink.taken l.sink) (take l.written l.text);
 }
 
 abbrev pub decreases-loop-written : goal.decreases-loop-written
