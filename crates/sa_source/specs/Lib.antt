@@ -3,3 +3,4 @@ pub mod Sink
 pub mod Calls
 pub mod MemorySource
 pub mod MemorySink
+pub mod System
