@@ -1,2 +1,6 @@
 pub mod Source
 pub mod Sink
+pub mod Calls
+pub mod MemorySource
+pub mod MemorySink
+pub mod System

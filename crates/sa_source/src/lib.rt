@@ -5,12 +5,24 @@
 //! tell no bytes, and count their faults.
 #![tactic(auto)]
 
+mod failing_calls;
+mod memory_sink;
+mod memory_source;
 mod plain_sink;
 mod plain_source;
 mod sink;
 mod source;
+mod std_sink;
+mod std_source;
 
+pub use memory_sink::MemorySink;
+pub use memory_source::MemorySource;
 pub use plain_sink::PlainSink;
 pub use plain_source::PlainSource;
 pub use sink::{Sink, SinkFault};
 pub use source::{Failed, Source};
+pub use std_sink::StdSink;
+pub use std_source::StdSource;
+
+#[cfg(test)]
+mod tests;

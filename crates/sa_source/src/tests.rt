@@ -1,0 +1,211 @@
+ghost use Rattle.std.specs.Prelude.{◌≡◌, ℕ, ◌<◌, ◌≤◌, length, take, vec_len, IfOk, IsErrOf, OnOk};
+ghost use Rattle.sa_source.specs.Source.{Takes, IsAtEnd, HasRisen};
+ghost use Rattle.sa_source.specs.Sink.{Appends};
+
+use super::*;
+use std::alloc::{AllocError, Global};
+use std::io;
+use std::io::ErrorKind;
+use std::process::Abort;
+use std::test::Fail;
+
+/// Why a source was not read to its end.
+#[derive(Clone, Copy, Debug, PartialEq, Eq)]
+enum ReadFault {
+    Failed,
+    OutOfMemory,
+}
+
+/// Reads through a buffer until the end, or until there are `limit` bytes.
+fn read_up_to<S: Source>(
+    alloc: Global,
+    source: &mut S,
+    buffer: &mut [u8],
+    limit: usize,
+) -> Result<Vec<u8>, ReadFault>
+    requires { 0 < length buffer.old }
+    ensures counts { S.faults source.old ≤ S.faults source.new }
+    ensures took { IfOk result (λ bytes. Takes (S.left source.old) (S.left source.new) bytes.items) }
+    ensures end { IfOk result (λ bytes. vec_len bytes < limit → IsAtEnd (S.left source.new)) }
+    ensures failed { IsErrOf result ReadFault.Failed
+        → HasRisen (S.faults source.old) (S.faults source.new) }
+{
+    let mut bytes = Vec::new(alloc);
+    while bytes.len() < limit {
+        match source.read(buffer) {
+            Ok(0) => return Ok(bytes),
+            Ok(count) => {
+                if bytes.extend_from_slice(&buffer[..count]).is_err() {
+                    return Err(ReadFault::OutOfMemory);
+                }
+            }
+            Err(Failed) => return Err(ReadFault::Failed),
+        }
+    }
+    Ok(bytes)
+}
+
+/// Writes a whole text. After a fault the sink has taken the front of it.
+#[tactic(auto, using(crate::proofs::Writes::appended))]
+fn write_all<K: Sink>(sink: &mut K, text: &[u8]) -> Result<(), SinkFault>
+    ensures counts { K.faults sink.old ≤ K.faults sink.new }
+    ensures took { OnOk result (Appends (K.taken sink.old) (K.taken sink.new) text.now) }
+    ensures begun { (count : ℕ) × (count ≤ length text.now)
+        × Appends (K.taken sink.old) (K.taken sink.new) (take count text.now) }
+    ensures failed { IsErrOf result SinkFault.Failed
+        → HasRisen (K.faults sink.old) (K.faults sink.new) }
+{
+    let mut written = 0;
+    while written < text.len() {
+        written += sink.write(&text[written..])?;
+    }
+    Ok(())
+}
+
+/// Reads `abc` with a buffer of this length, at most `piece` bytes a call, and compares what each call
+/// gives, where `!` is a fault.
+fn gives(
+    rt: &impl Abort,
+    alloc: Global,
+    room: usize,
+    piece: usize,
+    failing: &[u64],
+    answers: &[&str],
+) -> Result<(), AllocError>
+    requires { 0 < piece }
+{
+    let mut source = MemorySource::new(b"abc".to_vec(alloc)?, piece, failing.to_vec(alloc)?);
+    let mut buffer = vec![in alloc; 0u8; room]?;
+    for answer in answers {
+        match source.read(&mut buffer) {
+            Ok(count) => assert_eq!(rt; &buffer[..count], answer.as_bytes()),
+            Err(Failed) => assert_eq!(rt; "!", *answer),
+        }
+    }
+    Ok(())
+}
+
+#[test]
+fn gives_pieces(rt: HostRuntime) -> Result<(), Fail> {
+    let alloc = rt.alloc();
+    gives(&rt, alloc, 1, 10, &[], &["a", "b", "c", "", ""])?;
+    gives(&rt, alloc, 10, 1, &[], &["a", "b", "c", "", ""])?;
+    gives(&rt, alloc, 2, 10, &[], &["ab", "c", "", ""])?;
+    gives(&rt, alloc, 10, 10, &[], &["abc", "", ""])?;
+    gives(&rt, alloc, 0, 10, &[], &["", ""])?;
+    gives(&rt, alloc, 10, 2, &[1], &["!", "ab", "c", ""])?;
+    gives(&rt, alloc, 10, 2, &[2], &["ab", "!", "c", ""])?;
+    gives(&rt, alloc, 10, 2, &[3], &["ab", "c", "!", ""])?;
+    gives(&rt, alloc, 10, 2, &[4, 1], &["!", "ab", "c", "!", ""])?;
+    gives(&rt, alloc, 10, 2, &[0, 9], &["ab", "c", "", ""])?;
+    Ok(())
+}
+
+/// Writes `abc` again and again, at most `piece` bytes a call, and compares what was taken after each
+/// call, where `!` is a fault.
+fn takes(
+    rt: &impl Abort,
+    alloc: Global,
+    piece: usize,
+    failing: &[u64],
+    answers: &[&str],
+) -> Result<(), AllocError>
+    requires { 0 < piece }
+{
+    let mut sink = MemorySink::new(alloc, piece, failing.to_vec(alloc)?);
+    for answer in answers {
+        match sink.write(b"abc") {
+            Ok(_) => assert_eq!(rt; sink.taken(), answer.as_bytes()),
+            Err(fault) => assert_eq!(rt; (fault, "!"), (SinkFault::Failed, *answer)),
+        }
+    }
+    Ok(())
+}
+
+#[test]
+fn takes_pieces(rt: HostRuntime) -> Result<(), Fail> {
+    let alloc = rt.alloc();
+    takes(&rt, alloc, 1, &[], &["a", "aa", "aaa"])?;
+    takes(&rt, alloc, 2, &[], &["ab", "abab"])?;
+    takes(&rt, alloc, 10, &[], &["abc", "abcabc"])?;
+    takes(&rt, alloc, 2, &[1], &["!", "ab", "abab"])?;
+    takes(&rt, alloc, 2, &[2], &["ab", "!", "abab"])?;
+    takes(&rt, alloc, 2, &[4, 1], &["!", "ab", "abab", "!", "ababab"])?;
+    takes(&rt, alloc, 2, &[0, 9], &["ab", "abab"])?;
+    Ok(())
+}
+
+#[test]
+fn writes_up_to_a_fault(rt: HostRuntime) -> Result<(), Fail> {
+    let text = vec![in rt.alloc(); b'x'; 250]?;
+    let mut sink = MemorySink::new(rt.alloc(), 100, [3].to_vec(rt.alloc())?);
+    assert_eq!(rt; write_all(&mut sink, &text), Err(SinkFault::Failed));
+    assert_eq!(rt; sink.taken(), &text[..200]);
+    Ok(())
+}
+
+#[test]
+fn reads_up_to_a_fault(rt: HostRuntime) -> Result<(), Fail> {
+    let alloc = rt.alloc();
+    let mut source = MemorySource::new(b"abc".to_vec(alloc)?, 2, [2].to_vec(alloc)?);
+    let read = read_up_to(alloc, &mut source, &mut [0; 4], 100);
+    assert_eq!(rt; read.err(), Some(ReadFault::Failed));
+    Ok(())
+}
+
+/// Reads a source to its end, and compares what it gave with `abc`.
+fn gives_abc<S: Source>(rt: &impl Abort, alloc: Global, source: &mut S) -> Result<(), ReadFault> {
+    let bytes = read_up_to(alloc, source, &mut [0; 2], 100)?;
+    assert_eq!(rt; bytes.as_slice(), b"abc".as_slice());
+    Ok(())
+}
+
+#[test]
+fn reads_whole_texts(rt: HostRuntime) -> Result<(), Fail> {
+    let alloc = rt.alloc();
+    let bytes = b"abc".to_vec(alloc)?;
+    gives_abc(&rt, alloc, &mut PlainSource::new(bytes))?;
+    let bytes = b"abc".to_vec(alloc)?;
+    gives_abc(
+        &rt,
+        alloc,
+        &mut MemorySource::new(bytes, 1, Vec::new(alloc)),
+    )?;
+    gives_abc(&rt, alloc, &mut StdSource::new(b"abc".as_slice()))?;
+    Ok(())
+}
+
+#[test]
+fn writes_whole_texts(rt: HostRuntime) -> Result<(), Fail> {
+    let mut plain = PlainSink::new(rt.alloc());
+    write_all(&mut plain, b"abc")?;
+    assert_eq!(rt; plain.taken(), b"abc".as_slice());
+    let mut written = Vec::new(rt.alloc());
+    write_all(&mut StdSink::new(&mut written), b"abc")?;
+    assert_eq!(rt; written.as_slice(), b"abc".as_slice());
+    Ok(())
+}
+
+/// A reader that is interrupted each time.
+#[derive(Drop)]
+struct Interrupted;
+
+impl io::Read for Interrupted {
+    fn read(&mut self, _buffer: &mut [u8]) -> io::Result<usize> {
+        Err(ErrorKind::Interrupted.into())
+    }
+}
+
+#[test]
+fn counts_errors_as_faults(rt: HostRuntime) {
+    assert_eq!(rt; StdSource::new(Interrupted).read(&mut [0; 4]), Err(Failed));
+}
+
+#[test]
+fn counts_no_progress_as_fault(rt: HostRuntime) {
+    let mut room = [0; 3];
+    let mut sink = StdSink::new(room.as_mut_slice());
+    assert_eq!(rt; sink.write(b"full"), Ok(3));
+    assert_eq!(rt; sink.write(b""), Ok(0));
+    assert_eq!(rt; sink.write(b"l"), Err(SinkFault::Failed));
+}
