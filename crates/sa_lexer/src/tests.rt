@@ -209,3 +209,11 @@ fn is_fault(alloc: Global, text: &str, kind: LexKind, place: usize) -> bool {
         _ => false,
     }
 }
+
+#[test]
+fn goes_through_a_vec(rt: HostRuntime) -> Result<(), Fail> {
+    let found = tokens(rt.alloc(), "a,")?.into_vec();
+    let again = Tokens::from_vec(found);
+    assert_eq!(rt; again.as_slice().len(), 2);
+    Ok(())
+}
