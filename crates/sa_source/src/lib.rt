@@ -14,6 +14,7 @@ mod sink;
 mod source;
 mod std_sink;
 mod std_source;
+mod transfer;
 
 pub use memory_sink::MemorySink;
 pub use memory_source::MemorySource;
@@ -23,6 +24,7 @@ pub use sink::{Sink, SinkFault};
 pub use source::{Failed, Source};
 pub use std_sink::StdSink;
 pub use std_source::StdSource;
+pub use transfer::{ReadStop, read_up_to, write_all};
 
 #[cfg(test)]
 mod tests;

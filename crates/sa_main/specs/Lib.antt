@@ -1,0 +1,11 @@
+pub mod Names
+pub mod Script
+pub mod Meaning
+pub mod Pieces
+pub mod Spelling
+pub mod Statements
+pub mod Form
+pub mod Candidate
+pub mod Journal
+pub mod Step
+pub mod Words
