@@ -45,3 +45,6 @@ fn words<R: Env + AllocGlobal>(rt: &R) -> io::Result<Vec<String>> {
     }
     Ok(words)
 }
+
+#[cfg(test)]
+mod tests;
