@@ -1,4 +1,12 @@
+pub mod Results
 pub mod Cuts
 pub mod Runs
 pub mod Steps
+pub mod Closes
+pub mod Held
+pub mod Openings
+pub mod Ends
+pub mod Longest
+pub mod Quotes
+pub mod Lexemes
 pub mod Laws
