@@ -1,16 +1,14 @@
 -- What is read at the front of a text is a blank, or a token that is spelled there and ends there.
-use Rattle.std.proofs.Common.{◌≡◌, ◌≢◌, ℕ, zero, suc, ◌+◌, ◌-◌, ◌<◌, ◌≤◌, List, [], ◌∷◌, ◌++◌, length, take, drop, get_or, Option, Some, None, Result, Ok, Err, Bool, true, false, cond, ltb, refl, sym, ap, ◌∙◌, subst, arith, inl, inr, ◌⊎◌, length-append, add-zero}
-use Rattle.std.specs.Prelude.{not, ◌==◌, ◌||◌, nat_eq, codes, slice_range}
+use Rattle.std.proofs.Common.{◌≡◌, ◌≢◌, ℕ, ◌+◌, ◌-◌, ◌<◌, ◌≤◌, List, [], ◌∷◌, ◌++◌, length, take, drop, get_or, Option, Some, None, Result, Ok, Err, Bool, true, false, cond, ltb, refl, sym, ap, ◌∙◌, subst, arith, inl, inr, ◌⊎◌, length-append}
+use Rattle.std.specs.Prelude.{◌==◌, ◌||◌, slice_range}
 use Rattle.std.specs.Char.{is_ascii_digit}
 use Rattle.std.specs.List.{prefix_len, AllByRecursion}
-use Rattle.std.specs.Cmp.Lexicographic.{pointwise}
 use Rattle.std.specs.Str.Parse.{digits_value}
-use Rattle.std.proofs.Math.Seq.{take-append-add}
-use Rattle.std.proofs.lemmas.Bool.{cases_lt, or_cases, ltb-false, eqb-true, eqb-false, not-false}
-use Rattle.std.proofs.lemmas.List.{take_at, take-append-drop, drop_all, get_or-take, get_or-drop, length-take-le, length-drop, take-take}
+use Rattle.std.proofs.lemmas.Bool.{cases_lt, or_cases, ltb-false, eqb-true, eqb-false}
+use Rattle.std.proofs.lemmas.List.{take_at, take-append-drop, drop_all, get_or-take, length-take-le}
 use Rattle.std.proofs.lemmas.List.Folds.{length-prefix_len}
 use Rattle.std.proofs.lemmas.List.Sums.{prefix_len_stops, prefix_len-le-length}
-use Rattle.sa_lexer.specs.declared.fault.LexKind.TheVariants.{BadByte, NumberTooLong, TextTooLong, OpenComment, OpenText}
+use Rattle.sa_lexer.specs.declared.fault.LexKind.TheVariants.{BadByte, NumberTooLong, TextTooLong}
 use Rattle.sa_lexer.specs.declared.lexeme.Lexeme.{Lexeme}
 use Rattle.sa_lexer.specs.declared.opening.Opening.{Opening}
 use Rattle.sa_lexer.specs.declared.opening.Opening.TheVariants.{LineComment, Comment, Quoted, Plain}
@@ -19,16 +17,17 @@ use Rattle.sa_lexer.specs.declared.token.TokenKind.{TokenKind}
 use Rattle.sa_lexer.specs.declared.token.TokenKind.TheVariants as kinds
 use Rattle.sa_lexer.specs.Byte.{is_space, is_word_byte, is_quote}
 use Rattle.sa_lexer.specs.Fault.{Fault, fault, ◌>>=◌}
-use Rattle.sa_lexer.specs.Opening.{begins_with, opening_of, is_executable, line_len, plus, comment_close, quote_close, opened_len, len_at}
+use Rattle.sa_lexer.specs.Opening.{begins_with, opening_of, is_executable, line_len, opened_len, len_at}
 use Rattle.sa_lexer.specs.Quoted.{held_in}
 use Rattle.sa_lexer.specs.Sign.{sign_at, spelling}
 use Rattle.sa_lexer.specs.Lexeme.{blank, token, word_at, number_at, sign_lexeme, plain_at, quoted_at, opened_at, lexeme_at}
 use Rattle.sa_lexer.specs.Spans.{Part, IsPart, Spells, InQuotes, source_of, meaning_of}
 use Rattle.sa_lexer.specs.Grammar.{IsBlank, Ends}
 use Rattle.sa_lexer.proofs.Cuts.{sign_stands, last_of_sign}
+use Rattle.sa_lexer.proofs.Enclosed.{next_is, line_front, comment_front, quoted_front}
 use Rattle.sa_lexer.proofs.Longest.{longest_sign}
-use Rattle.sa_lexer.proofs.Openings.{comment_first, comment_fits, line_within, line_some, quoted_first, plus_some, closed_ok, begins, comment_closes, quote_closes}
-use Rattle.sa_lexer.proofs.Quotes.{has_parts, held_parts}
+use Rattle.sa_lexer.proofs.Openings.{line_within, line_some}
+use Rattle.sa_lexer.proofs.Quotes.{held_parts}
 use Rattle.sa_lexer.proofs.Results.{ok_is, bind_ok, chosen}
 use Rattle.sa_lexer.proofs.Runs.{digits_of_run, run_passes}
 
@@ -42,9 +41,6 @@ pub record IsLexeme (bytes : List ℕ) (lexeme : Lexeme) : Type 0 where
   pub some : 0 < lexeme.len
   pub within : lexeme.len ≤ length bytes
   pub is : IsKind (take lexeme.len bytes) (drop lexeme.len bytes) lexeme.kind
-
-next_is : (n : ℕ) (bytes : List ℕ) → get_or (drop n bytes) 0 0 ≡ get_or bytes n 0
-next_is n bytes = get_or-drop n bytes 0 0 ∙ ap (λ (k : ℕ). get_or bytes k 0) (add-zero n)
 
 -- the byte behind a run fails its test, and so does the want of one
 run_ends : (p : ℕ → Bool) (bytes : List ℕ) → p 0 ≡ false → p (get_or (drop (prefix_len p bytes) bytes) 0 0) ≡ false
@@ -128,62 +124,12 @@ plain_is place bytes lexeme some plain e =
     ]
 
 line_is : (bytes : List ℕ) → opening_of bytes ≡ LineComment → IsLexeme bytes (blank (line_len bytes))
-line_is bytes opens =
-    let test : ℕ → Bool = λ byte. not (byte == 10) in
-    let len = line_len bytes in
-    let end : (drop len bytes ≡ []) ⊎ (get_or (drop len bytes) 0 0 ≡ 10) = elim (cases_lt len (length bytes)) [
-      | inl within ↦ inr (next_is len bytes ∙ eqb-true (get_or bytes len 0) 10 (not-false (get_or bytes len 0 == 10) (prefix_len_stops test bytes 0 within)))
-      | inr past ↦ inl (drop_all len bytes past)
-    ] in
-    record {
-      some = line_some bytes opens;
-      within = line_within bytes;
-      is = inr (inl (subst (λ (b : List ℕ). opening_of b ≡ LineComment) (sym (take-append-drop len bytes)) opens, run_passes test bytes, end));
-    }
-
--- what stands before the first `*/`
-record IsInner (bytes : List ℕ) (len : ℕ) : Type 0 where
-  inner : List ℕ
-  source : take len bytes ≡ inner ++ codes "*/"
-  apart : (k : ℕ) → k < length inner → begins_with (codes "*/") (drop k (inner ++ codes "*/")) ≡ false
-
-apart_later : (byte : ℕ) (bytes inner : List ℕ) (n : ℕ) → 1 ≤ n → take n bytes ≡ inner ++ codes "*/" → begins_with (codes "*/") (byte ∷ bytes) ≡ false → ((k : ℕ) → k < length inner → begins_with (codes "*/") (drop k (inner ++ codes "*/")) ≡ false)
-    → (k : ℕ) → k < length (byte ∷ inner) → begins_with (codes "*/") (drop k (byte ∷ (inner ++ codes "*/"))) ≡ false
-apart_later byte bytes inner n some source here later zero lt =
-    let same : take 1 (inner ++ codes "*/") ≡ take 1 bytes = ap (take 1) (sym source) ∙ take-take 1 n bytes some in
-    ap (λ (front : List ℕ). pointwise nat_eq (codes "*/") (byte ∷ front)) same ∙ here
-apart_later byte bytes inner n some source here later (suc k) lt = later k (omega arith)
-
-inner_is : (bytes : List ℕ) (len : ℕ) → comment_close bytes ≡ Some len → IsInner bytes len
-unfolding comment_close
-inner_is [] len e = absurd cc
-inner_is (byte ∷ bytes) len e = elim (chosen (begins_with (codes "*/") (byte ∷ bytes)) (Some 2) (plus 1 (comment_close bytes)) (Some len) e) [
-  | inl a ↦
-      let two : len ≡ 2 = cc in
-      rw two (record { inner = []; source = ap (take 2) (begins (codes "*/") (byte ∷ bytes) a.0); apart = λ k lt. absurd (omega arith) })
-  | inr a ↦
-      let p = plus_some 1 (comment_close bytes) len a.1 in
-      let h = inner_is bytes p.0 p.1 in
-      let one : len ≡ suc p.0 = omega (arith, p.2) in
-      rw one (record {
-        inner = byte ∷ h.inner;
-        source = ap (λ (more : List ℕ). byte ∷ more) h.source;
-        apart = apart_later byte bytes h.inner p.0 (comment_closes bytes p.0 p.1).some h.source a.0 h.apart;
-      })
-]
+line_is bytes opens = record { some = line_some bytes opens; within = line_within bytes; is = inr (inl (line_front bytes opens)) }
 
 comment_is : (place : ℕ) (bytes : List ℕ) (len : ℕ) → is_executable bytes ≡ false → opening_of bytes ≡ Comment → opened_len place bytes Comment ≡ Ok len → IsLexeme bytes (blank len)
 comment_is place bytes len plain opens e =
-    let p = plus_some 2 (comment_close (drop 2 bytes)) len (closed_ok OpenComment place (plus 2 (comment_close (drop 2 bytes))) len e) in
-    let h = inner_is (drop 2 bytes) p.0 p.1 in
-    let front : take len bytes ≡ codes "/*" ++ (h.inner ++ codes "*/") =
-    ap (λ (n : ℕ). take n bytes) (sym p.2) ∙ ap (take (2 + p.0)) (comment_first bytes opens) ∙ take-append-add (codes "/*") (drop 2 bytes) p.0 ∙ ap (λ (more : List ℕ). codes "/*" ++ more) h.source in
-    let closes = comment_closes (drop 2 bytes) p.0 p.1 in
-    record {
-      some = omega (arith, p.2);
-      within = omega (arith, p.2, closes.within, length-drop 2 bytes, comment_fits bytes opens);
-      is = inr (inr (h.inner, front, subst (λ (b : List ℕ). is_executable b ≡ false) (sym (take-append-drop len bytes)) plain, h.apart));
-    }
+    let front = comment_front place bytes len opens e in
+    record { some = front.some; within = front.within; is = inr (inr (front.is, subst (λ (b : List ℕ). is_executable b ≡ false) (sym (take-append-drop len bytes)) plain)) }
 
 between : (quote : ℕ) (source : List ℕ) → slice_range (quote ∷ (source ++ quote ∷ [])) 1 (length (quote ∷ (source ++ quote ∷ [])) - 1) ≡ source
 between quote source =
@@ -237,23 +183,16 @@ quoted_kind place quote parts lexeme is are e =
       ]
     ]
 
-quoted_is : (place : ℕ) (bytes : List ℕ) (len : ℕ) (lexeme : Lexeme) → 0 < length bytes → opening_of bytes ≡ Quoted → opened_len place bytes Quoted ≡ Ok len → quoted_at place (take len bytes) ≡ Ok lexeme → IsLexeme bytes lexeme
-quoted_is place [] len lexeme some opens read e = absurd (omega arith)
-quoted_is place (quote ∷ bytes) len lexeme some opens read e =
-    let p = plus_some 1 (quote_close quote bytes) len (closed_ok OpenText place (plus 1 (quote_close quote bytes)) len read) in
-    let is = quoted_first (quote ∷ bytes) opens in
-    let h = has_parts quote bytes p.0 is p.1 in
-    let one : len ≡ suc p.0 = omega (arith, p.2) in
-    let part : take len (quote ∷ bytes) ≡ quote ∷ (source_of h.parts ++ quote ∷ []) = ap (λ (n : ℕ). take n (quote ∷ bytes)) one ∙ ap (λ (more : List ℕ). quote ∷ more) h.source in
-    let kind = quoted_kind place quote h.parts lexeme is h.are (rw part at e) in
-    let fits : len ≤ length (quote ∷ bytes) = omega (arith, (quote_closes quote bytes p.0 p.1).within) in
-    let same : lexeme.len ≡ len = kind.len ∙ ap length (sym part) ∙ length-take-le len (quote ∷ bytes) fits in
-    let after : get_or (drop len (quote ∷ bytes)) 0 0 ≢ quote = subst (λ (n : ℕ). get_or (drop n (quote ∷ bytes)) 0 0 ≢ quote) (sym one) h.ends in
-    let there = subst (λ (b : List ℕ). IsKind b (drop len (quote ∷ bytes)) lexeme.kind) (sym part) (kind.is (drop len (quote ∷ bytes)) after) in
+quoted_is : (place : ℕ) (bytes : List ℕ) (len : ℕ) (lexeme : Lexeme) → opening_of bytes ≡ Quoted → opened_len place bytes Quoted ≡ Ok len → quoted_at place (take len bytes) ≡ Ok lexeme → IsLexeme bytes lexeme
+quoted_is place bytes len lexeme opens read e =
+    let front = quoted_front place bytes len opens read in
+    let kind = quoted_kind place front.quote front.parts lexeme front.is front.are (rw front.source at e) in
+    let same : lexeme.len ≡ len = kind.len ∙ ap length (sym front.source) ∙ length-take-le len bytes front.within in
+    let there = subst (λ (b : List ℕ). IsKind b (drop len bytes) lexeme.kind) (sym front.source) (kind.is (drop len bytes) front.ends) in
     record {
-      some = omega (arith, same);
-      within = omega (arith, same);
-      is = subst (λ (n : ℕ). IsKind (take n (quote ∷ bytes)) (drop n (quote ∷ bytes)) lexeme.kind) (sym same) there;
+      some = omega (arith, same, front.some);
+      within = omega (arith, same, front.within);
+      is = subst (λ (n : ℕ). IsKind (take n bytes) (drop n bytes) lexeme.kind) (sym same) there;
     }
 
 opened_is : (place : ℕ) (bytes : List ℕ) (len : ℕ) (opening : Opening) (lexeme : Lexeme) → 0 < length bytes → is_executable bytes ≡ false → opening_of bytes ≡ opening → opened_len place bytes opening ≡ Ok len → opened_at place bytes len opening ≡ Ok lexeme
@@ -262,7 +201,7 @@ opened_is place bytes len LineComment lexeme some plain opens read e =
     subst (IsLexeme bytes) (ok_is (blank len) lexeme e) (subst (λ (n : ℕ). IsLexeme bytes (blank n)) (ok_is (line_len bytes) len read) (line_is bytes opens))
 opened_is place bytes len Comment lexeme some plain opens read e =
     subst (IsLexeme bytes) (ok_is (blank len) lexeme e) (comment_is place bytes len plain opens read)
-opened_is place bytes len Quoted lexeme some plain opens read e = quoted_is place bytes len lexeme some opens read e
+opened_is place bytes len Quoted lexeme some plain opens read e = quoted_is place bytes len lexeme opens read e
 opened_is place bytes len Plain lexeme some plain opens read e = plain_is place bytes lexeme some opens e
 
 pub lexeme_is : (place : ℕ) (bytes : List ℕ) (lexeme : Lexeme) → 0 < length bytes → lexeme_at place bytes ≡ Ok lexeme → IsLexeme bytes lexeme

@@ -8,5 +8,7 @@ pub mod Openings
 pub mod Ends
 pub mod Longest
 pub mod Quotes
+pub mod Enclosed
 pub mod Lexemes
 pub mod Laws
+pub mod Pieces

@@ -11,19 +11,23 @@ use Rattle.sa_lexer.specs.Opening.{begins_with, is_executable, opening_of}
 use Rattle.sa_lexer.specs.Sign.{spelling}
 use Rattle.sa_lexer.specs.Spans.{Spells}
 
--- A blank is a byte of white space, a comment up to the end of its line, or a comment up to the first `*/`
--- behind its `/*`.
-abbrev pub IsBlank : List ℕ → List ℕ → Type 0
-IsBlank bytes after =
-    ((byte : ℕ) × (is_space byte ≡ true) × (bytes ≡ byte ∷ []))
-    ⊎ (((opening_of (bytes ++ after) ≡ LineComment) × AllPass (λ byte. not (byte == 10)) bytes × ((after ≡ []) ⊎ (slice_index after 0 ≡ 10)))
-    ⊎ ((inner : List ℕ) × (bytes ≡ codes "/*" ++ (inner ++ codes "*/")) × (is_executable (bytes ++ after) ≡ false)
-    × ((k : ℕ) → k < length inner → begins_with (codes "*/") (drop k (inner ++ codes "*/")) ≡ false)))
+-- A comment that its line ends, with what follows it: the end of the text, or the line's end.
+abbrev pub IsLineComment : List ℕ → List ℕ → Type 0
+IsLineComment bytes after = (opening_of (bytes ++ after) ≡ LineComment) × AllPass (λ byte. not (byte == 10)) bytes × ((after ≡ []) ⊎ (slice_index after 0 ≡ 10))
 
--- blanks one after another, and what follows them
-abbrev pub AreBlanks : List (List ℕ) → List ℕ → Type 0
-AreBlanks [] after = ⊤
-AreBlanks (blank ∷ blanks) after = IsBlank blank (concat blanks ++ after) × AreBlanks blanks after
+-- A comment from `/*` up to the first `*/` behind it.
+abbrev pub IsComment : List ℕ → Type 0
+IsComment bytes =
+    (inner : List ℕ) × (bytes ≡ codes "/*" ++ (inner ++ codes "*/")) × ((k : ℕ) → k < length inner → begins_with (codes "*/") (drop k (inner ++ codes "*/")) ≡ false)
+
+-- A blank is a byte of white space or a comment, but none that MariaDB would run.
+abbrev pub IsBlank : List ℕ → List ℕ → Type 0
+IsBlank bytes after = ((byte : ℕ) × (is_space byte ≡ true) × (bytes ≡ byte ∷ [])) ⊎ (IsLineComment bytes after ⊎ (IsComment bytes × (is_executable (bytes ++ after) ≡ false)))
+
+-- Parts stand one after another, each before what follows it.
+abbrev pub Follow : (List ℕ → List ℕ → Type 0) → List (List ℕ) → List ℕ → Type 0
+Follow Is [] after = ⊤
+Follow Is (part ∷ parts) after = Is part (concat parts ++ after) × Follow Is parts after
 
 -- A token ends where what follows can't go on with it: no byte of a word follows a word or a number, no
 -- quote a closing quote, and no longer sign, comment or quoted part begins where a sign does.
@@ -37,8 +41,8 @@ Ends bytes after (Sign sign) =
 
 -- The bytes of a text from the place on are these tokens, with blanks before, between and after them.
 abbrev pub AreTokens : ℕ → List ℕ → List Token → Type 0
-AreTokens place bytes [] = (blanks : List (List ℕ)) × (bytes ≡ concat blanks) × AreBlanks blanks []
+AreTokens place bytes [] = (blanks : List (List ℕ)) × (bytes ≡ concat blanks) × Follow IsBlank blanks []
 AreTokens place bytes (token ∷ tokens) =
-    (blanks : List (List ℕ)) × (spelled after : List ℕ) × (bytes ≡ concat blanks ++ (spelled ++ after)) × AreBlanks blanks (spelled ++ after)
+    (blanks : List (List ℕ)) × (spelled after : List ℕ) × (bytes ≡ concat blanks ++ (spelled ++ after)) × Follow IsBlank blanks (spelled ++ after)
     × (token.start ≡ place + length (concat blanks)) × (token.end ≡ token.start + length spelled)
     × Spells spelled token.kind × Ends spelled after token.kind × AreTokens token.end after tokens

@@ -1,7 +1,7 @@
 ghost use Rattle.std.specs.Prelude.{◌≡◌, ◌≤◌, length, IfOk, IfErr};
 ghost use Rattle.std.specs.Str.{IsCharBoundary};
 ghost use Rattle.sa_lexer.specs.Fault.{Answers, IsOpen};
-ghost use Rattle.sa_lexer.specs.Piece.{piece_end_at};
+ghost use Rattle.sa_lexer.specs.Piece.{piece_end_at, EndsPiece};
 
 use crate::fault::LexFault;
 use crate::opening::len_at;
@@ -21,6 +21,8 @@ pub struct PieceEnd {
 pub fn piece_end(text: &str, from: usize) -> Result<PieceEnd, LexFault>
     requires { IsCharBoundary text.now from }
     ensures exact { Answers result (piece_end_at from text.now) }
+    // Up to the end there is no `;` but in quotes and comments, and at the end there is one or nothing.
+    ensures whole { IfOk result (EndsPiece from text.now) }
     ensures after { IfOk result (λ piece. from ≤ piece.end) }
     ensures cut { IfOk result (λ piece. IsCharBoundary text.now piece.end) }
     ensures open_alone { IfErr result IsOpen }

@@ -1,8 +1,9 @@
-use Rattle.std.proofs.Common.{◌≤◌, length, drop, ap, arith}
+use Rattle.std.proofs.Common.{true, false, ◌≤◌, length, drop, ap, arith}
 use Rattle.std.proofs.lemmas.List.{take_rest, length-drop}
 use Rattle.std.proofs.lemmas.Result.{err_from_is_err_and}
 use Rattle.sa_lexer.specs.Piece.{piece_end_at}
 use Rattle.sa_lexer.proofs.Ends.{starts, found, goes_on, fails, ends}
+use Rattle.sa_lexer.proofs.Pieces.{ends_piece}
 use Rattle.sa_lexer.proofs.piece.piece_end.Goals as goal
 
 pub loop-place-init : goal.loop-place-init
@@ -13,6 +14,10 @@ loop-place-init c =
 pub returns-then-bytes-place-eq59-clause-exact : goal.returns-then-bytes-place-eq59-clause-exact
 returns-then-bytes-place-eq59-clause-exact c =
     rw (← c.as_bytes-bytes.ensures.value) (found c.as_bytes-bytes.result.now c.loop-place.place (piece_end_at c.args.from c.as_bytes-bytes.result.now) c.loop-place-test.true c.if-bytes-place-eq59.true c.loop-place.invariant.same)
+
+pub returns-then-bytes-place-eq59-clause-whole : goal.returns-then-bytes-place-eq59-clause-whole
+returns-then-bytes-place-eq59-clause-whole c =
+    ends_piece c.args.from c.args.text.now (record { end = c.loop-place.place; closed = true }) c.requires.0 (returns-then-bytes-place-eq59-clause-exact c)
 
 pub returns-in_err-place-clause-exact : goal.returns-in_err-place-clause-exact
 returns-in_err-place-clause-exact c =
@@ -39,3 +44,6 @@ loop-place-preserved c =
 pub returns-clause-exact : goal.returns-clause-exact
 returns-clause-exact c =
     rw (← c.as_bytes-bytes.ensures.value) (ends c.as_bytes-bytes.result.now c.loop-place.place (piece_end_at c.args.from c.as_bytes-bytes.result.now) c.loop-place-test.false c.loop-place.invariant.same)
+
+pub returns-clause-whole : goal.returns-clause-whole
+returns-clause-whole c = ends_piece c.args.from c.args.text.now (record { end = c.loop-place.place; closed = false }) c.requires.0 (returns-clause-exact c)
