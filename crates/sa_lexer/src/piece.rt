@@ -1,4 +1,4 @@
-ghost use Rattle.std.specs.Prelude.{◌≡◌, ◌≤◌, length, IfOk, IfErr};
+ghost use Rattle.std.specs.Prelude.{◌≡◌, ◌+◌, ◌≤◌, length, IfOk, IfErr, IsTrue};
 ghost use Rattle.std.specs.Str.{IsCharBoundary};
 ghost use Rattle.sa_lexer.specs.Fault.{Answers, IsOpen};
 ghost use Rattle.sa_lexer.specs.Piece.{piece_end_at, EndsPiece};
@@ -25,6 +25,8 @@ pub fn piece_end(text: &str, from: usize) -> Result<PieceEnd, LexFault>
     ensures whole { IfOk result (EndsPiece from text.now) }
     ensures after { IfOk result (λ piece. from ≤ piece.end) }
     ensures cut { IfOk result (λ piece. IsCharBoundary text.now piece.end) }
+    // Behind the semicolon the next piece begins.
+    ensures next { IfOk result (λ piece. IsTrue piece.closed → IsCharBoundary text.now (piece.end + 1)) }
     ensures open_alone { IfErr result IsOpen }
 {
     let bytes = text.as_bytes();

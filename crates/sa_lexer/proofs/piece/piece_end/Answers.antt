@@ -1,5 +1,6 @@
-use Rattle.std.proofs.Common.{true, false, ◌≤◌, length, drop, ap, arith}
+use Rattle.std.proofs.Common.{true, false, ◌<◌, ◌≤◌, length, drop, ap, arith}
 use Rattle.std.proofs.lemmas.List.{take_rest, length-drop}
+use Rattle.std.proofs.lemmas.Str.{IsCharBoundary-after_ascii}
 use Rattle.std.proofs.lemmas.Result.{err_from_is_err_and}
 use Rattle.sa_lexer.specs.Piece.{piece_end_at}
 use Rattle.sa_lexer.proofs.Ends.{starts, found, goes_on, fails, ends}
@@ -18,6 +19,12 @@ returns-then-bytes-place-eq59-clause-exact c =
 pub returns-then-bytes-place-eq59-clause-whole : goal.returns-then-bytes-place-eq59-clause-whole
 returns-then-bytes-place-eq59-clause-whole c =
     ends_piece c.args.from c.args.text.now (record { end = c.loop-place.place; closed = true }) c.requires.0 (returns-then-bytes-place-eq59-clause-exact c)
+
+pub returns-then-bytes-place-eq59-clause-next : goal.returns-then-bytes-place-eq59-clause-next
+returns-then-bytes-place-eq59-clause-next c = λ closed.
+    let here = rw c.as_bytes-bytes.ensures.value at c.if-bytes-place-eq59.true in
+    let within : c.loop-place.place < length c.args.text.now = omega (arith, ap length c.as_bytes-bytes.ensures.value) in
+    IsCharBoundary-after_ascii c.args.text.now c.loop-place.place c.utf8.text within (omega (arith, here))
 
 pub returns-in_err-place-clause-exact : goal.returns-in_err-place-clause-exact
 returns-in_err-place-clause-exact c =
