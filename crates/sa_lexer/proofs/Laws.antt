@@ -81,7 +81,7 @@ are_tokens text tokens e = are_tokens_from 0 0 text tokens (omega arith) e
 quotes_some : (quote : ℕ) (bytes held : List ℕ) → InQuotes quote bytes held → 0 < length bytes
 quotes_some quote bytes held h = omega (arith, ap length h.2)
 
-spells_some : (bytes : List ℕ) (kind : TokenKind) → Spells bytes kind → 0 < length bytes
+pub spells_some : (bytes : List ℕ) (kind : TokenKind) → Spells bytes kind → 0 < length bytes
 spells_some bytes (Word word) h = h.1
 spells_some bytes (QuotedName name) h = quotes_some 96 bytes name h.0
 spells_some bytes (Text text) h = elim h.0 [ inl single ↦ quotes_some 39 bytes text single | inr double ↦ quotes_some 34 bytes text double ]

@@ -131,7 +131,8 @@ comment_is place bytes len plain opens e =
     let front = comment_front place bytes len opens e in
     record { some = front.some; within = front.within; is = inr (inr (front.is, subst (λ (b : List ℕ). is_executable b ≡ false) (sym (take-append-drop len bytes)) plain)) }
 
-between : (quote : ℕ) (source : List ℕ) → slice_range (quote ∷ (source ++ quote ∷ [])) 1 (length (quote ∷ (source ++ quote ∷ [])) - 1) ≡ source
+-- what stands between the quotes
+pub between : (quote : ℕ) (source : List ℕ) → slice_range (quote ∷ (source ++ quote ∷ [])) 1 (length (quote ∷ (source ++ quote ∷ [])) - 1) ≡ source
 between quote source =
     let all : (length (quote ∷ (source ++ quote ∷ [])) - 1) - 1 ≡ length source = omega (arith, length-append source (quote ∷ [])) in
     rw all (take_at source (quote ∷ []) (length source) refl)

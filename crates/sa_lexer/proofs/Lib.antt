@@ -12,3 +12,5 @@ pub mod Enclosed
 pub mod Lexemes
 pub mod Laws
 pub mod Pieces
+pub mod Again
+pub mod Unique

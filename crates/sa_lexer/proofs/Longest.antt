@@ -69,3 +69,21 @@ unfolding sign_at
 longest_sign bytes sign other e begins =
     let place = place_of other in
     no_shorter (λ s. begins_with (spelling s) bytes) signs place.0 sign other refl e place.1 begins
+
+found_passing : (p : Sign → Bool) (y : Sign) (ys : List Sign) (k : ℕ) (x : Sign) (b : Bool) → p y ≡ b → ((j : ℕ) → slice_get ys j ≡ Some x → (found : Sign) × (find p ys ≡ Some found)) → slice_get (y ∷ ys) k ≡ Some x → p x ≡ true → (found : Sign) × (cond b (Some y) (find p ys) ≡ Some found)
+found_passing p y ys k x true test later at passes = (y, refl)
+found_passing p y ys zero x false test later at passes =
+    let same : y ≡ x = cc in
+    absurd (let clash : true ≡ false = sym passes ∙ ap p (sym same) ∙ test in cc)
+found_passing p y ys (suc k) x false test later at passes = later k at
+
+finds : (p : Sign → Bool) (xs : List Sign) (k : ℕ) (x : Sign) → slice_get xs k ≡ Some x → p x ≡ true → (found : Sign) × (find p xs ≡ Some found)
+finds p [] k x at passes = absurd cc
+finds p (y ∷ ys) k x at passes = found_passing p y ys k x (p y) refl (λ j g. finds p ys j x g passes) at passes
+
+-- where a sign begins, a sign is found
+pub sign_found : (bytes : List ℕ) (sign : Sign) → begins_with (spelling sign) bytes ≡ true → (found : Sign) × (sign_at bytes ≡ Some found)
+unfolding sign_at
+sign_found bytes sign begins =
+    let place = place_of sign in
+    finds (λ s. begins_with (spelling s) bytes) signs place.0 sign place.1 begins

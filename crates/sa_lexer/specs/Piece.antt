@@ -1,5 +1,5 @@
 -- Where a piece of a script ends.
-use Rattle.std.specs.Prelude.{ℕ, zero, suc, ◌≡◌, ◌≢◌, ◌+◌, ◌-◌, ◌==◌, ◌⊎◌, List, [], ◌∷◌, ◌++◌, length, drop, slice_get, slice_index, true, false, MatchBool, Some, Result, Ok, Err, if◌then◌else◌}
+use Rattle.std.specs.Prelude.{ℕ, zero, suc, ◌≡◌, ◌≢◌, ◌+◌, ◌-◌, ◌==◌, ◌⊎◌, List, [], ◌∷◌, ◌++◌, length, drop, slice_get, slice_index, true, false, MatchBool, Some, Result, Ok, if◌then◌else◌}
 use Rattle.std.specs.List.{concat}
 use Rattle.sa_lexer.specs.declared.opening.Opening.TheVariants.{Plain}
 use Rattle.sa_lexer.specs.declared.piece.PieceEnd.{PieceEnd}

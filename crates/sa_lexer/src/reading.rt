@@ -1,4 +1,5 @@
-ghost use Rattle.std.specs.Prelude.{◌≡◌, IfOk, length};
+ghost use Rattle.std.specs.Prelude.{◌≡◌, List, IfOk, Ok, length};
+ghost use Rattle.sa_lexer.specs.declared.token.Token.{Token};
 ghost use Rattle.sa_lexer.specs.Fault.{Gives};
 ghost use Rattle.sa_lexer.specs.Tokens.{tokens_of};
 ghost use Rattle.sa_lexer.specs.Spans.{SpansRise, AllSpelled};
@@ -15,6 +16,8 @@ pub fn tokens(alloc: Global, text: &str) -> Result<Tokens, LexFault>
     ensures exact { Gives result (tokens_of text.now) }
     // Between them are blanks alone, and each is as long as it can be.
     ensures whole { IfOk result (λ tokens. AreTokens 0 text.now tokens) }
+    // A text that is such tokens is read as them, and as no others.
+    ensures only { (tokens : List Token) → AreTokens 0 text.now tokens → Gives result (Ok tokens) }
     ensures rise { IfOk result (λ tokens. SpansRise 0 (length text.now) tokens) }
     ensures spelled { IfOk result (λ tokens. AllSpelled text.now tokens) }
 {
