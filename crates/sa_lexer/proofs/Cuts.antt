@@ -33,10 +33,12 @@ found_passes p [] x e = absurd cc
 found_passes p (y ∷ ys) x e = picked p y x (find p ys) (found_passes p ys x) (p y) refl e
 
 -- the sign that was found stands there
-pub sign_stands : (bytes : List ℕ) (sign : Sign) → sign_at bytes ≡ Some sign → bytes ≡ spelling sign ++ drop (length (spelling sign)) bytes
+pub sign_begins : (bytes : List ℕ) (sign : Sign) → sign_at bytes ≡ Some sign → starts_with nat_eq bytes (spelling sign) ≡ true
 unfolding sign_at
-sign_stands bytes sign e =
-    (starts_is Decides-eqb bytes (spelling sign) (starts_with nat_eq bytes (spelling sign)) refl).0 (found_passes (λ s. starts_with nat_eq bytes (spelling s)) signs sign e)
+sign_begins bytes sign e = found_passes (λ s. starts_with nat_eq bytes (spelling s)) signs sign e
+
+pub sign_stands : (bytes : List ℕ) (sign : Sign) → sign_at bytes ≡ Some sign → bytes ≡ spelling sign ++ drop (length (spelling sign)) bytes
+sign_stands bytes sign e = (starts_is Decides-eqb bytes (spelling sign) (starts_with nat_eq bytes (spelling sign)) refl).0 (sign_begins bytes sign e)
 
 -- the last byte of a sign is ASCII
 pub last_of_sign : (sign : Sign) → (last : ℕ) × (length (spelling sign) ≡ last + 1) × (get_or (spelling sign) last 0 < 128)

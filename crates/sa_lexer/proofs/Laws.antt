@@ -1,145 +1,118 @@
--- The spans of the tokens that are read rise, and each token is spelled by what stands at its span.
-use Rattle.std.proofs.Common.{◌≡◌, ℕ, zero, suc, ◌+◌, ◌-◌, ◌<◌, ◌≤◌, Bool, true, false, cond, ltb, List, [], ◌∷◌, ◌++◌, length, get_or, take, drop, Option, Some, None, Result, Ok, Err, refl, sym, ap, subst, ◌∙◌, arith, inl, inr, ◌⊎◌, length-append, add-zero}
-use Rattle.std.specs.Prelude.{slice_range, IfSome}
-use Rattle.std.specs.Str.Parse.{digits_value}
-use Rattle.std.specs.Char.{is_ascii_digit}
-use Rattle.std.specs.List.{prefix_len, AllByRecursion}
-use Rattle.std.proofs.lemmas.List.{drop-drop, take_at}
+-- What is read is the text: tokens and blanks, and the spans of the tokens.
+use Rattle.std.proofs.Common.{◌≡◌, ℕ, zero, suc, ◌+◌, ◌-◌, ◌<◌, ◌≤◌, List, [], ◌∷◌, ◌++◌, length, take, drop, Option, Some, None, Ok, refl, sym, ap, subst, ◌∙◌, arith, inl, inr, append_assoc, length-append, add-zero}
+use Rattle.std.specs.Prelude.{slice_range}
+use Rattle.std.specs.List.{AllByRecursion, concat}
+use Rattle.std.proofs.Math.Seq.{take-append_seam, drop-append_seam}
+use Rattle.std.proofs.lemmas.List.{append-nil, drop-drop, take-append-drop, length-take-le}
 use Rattle.std.proofs.lemmas.List.Elements.{All-from_recursion}
-use Rattle.std.proofs.lemmas.List.Sums.{prefix_len-le-length}
-use Rattle.sa_lexer.specs.declared.fault.LexKind.TheVariants.{BadByte, NumberTooLong}
 use Rattle.sa_lexer.specs.declared.lexeme.Lexeme.{Lexeme}
-use Rattle.sa_lexer.specs.declared.sign.Sign.{Sign}
 use Rattle.sa_lexer.specs.declared.token.Token.{Token}
 use Rattle.sa_lexer.specs.declared.token.TokenKind.{TokenKind}
-use Rattle.sa_lexer.specs.declared.token.TokenKind.TheVariants as kinds
-use Rattle.sa_lexer.specs.Byte.{is_space, is_word_byte}
-use Rattle.sa_lexer.specs.Sign.{sign_at, spelling}
-use Rattle.sa_lexer.specs.Lexeme.{Fault, fault, blank, word_at, number_at, sign_lexeme, lexeme_at}
-use Rattle.sa_lexer.specs.Tokens.{◌>>=◌, token_of, tokens_from, tokens_of}
-use Rattle.sa_lexer.specs.Spans.{SpansRise, Spells, AllSpelled}
-use Rattle.sa_lexer.proofs.Cuts.{sign_stands, last_of_sign}
-use Rattle.sa_lexer.proofs.Runs.{digits_of_run, run_passes}
+use Rattle.sa_lexer.specs.declared.token.TokenKind.TheVariants.{Word, QuotedName, Text, Number, Sign}
+use Rattle.sa_lexer.specs.Fault.{◌>>=◌}
+use Rattle.sa_lexer.specs.Lexeme.{lexeme_at}
+use Rattle.sa_lexer.specs.Tokens.{token_of, tokens_from, tokens_of}
+use Rattle.sa_lexer.specs.Spans.{SpansRise, Spells, InQuotes, AllSpelled}
+use Rattle.sa_lexer.specs.Grammar.{IsBlank, Ends, AreTokens}
+use Rattle.sa_lexer.proofs.Cuts.{last_of_sign}
+use Rattle.sa_lexer.proofs.Lexemes.{IsKind, IsLexeme, lexeme_is}
+use Rattle.sa_lexer.proofs.Results.{ok_is, bind_ok}
 
--- a lexeme takes a byte at least, and no more than there are; what it takes spells its token
-pub record IsLexeme (bytes : List ℕ) (lexeme : Lexeme) : Type 0 where
-  pub some : 0 < lexeme.len
-  pub within : lexeme.len ≤ length bytes
-  pub spelled : IfSome lexeme.kind (Spells (take lexeme.len bytes))
+with_blank : (place : ℕ) (blank after : List ℕ) (tokens : List Token) → IsBlank blank after → AreTokens (place + length blank) after tokens → AreTokens place (blank ++ after) tokens
+with_blank place blank after [] is h =
+    let rest : after ≡ concat h.0 ++ [] = h.1 ∙ sym (append-nil (concat h.0)) in
+    (blank ∷ h.0, ap (λ (more : List ℕ). blank ++ more) h.1, (subst (IsBlank blank) rest is, h.2))
+with_blank place blank after (token ∷ tokens) is h = (
+  blank ∷ h.0,
+  h.1,
+  h.2,
+  ap (λ (more : List ℕ). blank ++ more) h.3 ∙ sym (append_assoc blank (concat h.0) (h.1 ++ h.2)),
+  (subst (IsBlank blank) h.3 is, h.4),
+  omega (arith, h.5, length-append blank (concat h.0)),
+  h.6,
+  h.7,
+  h.8,
+  h.9,
+)
 
-abbrev done : {A : Type 0} → A → Result A Fault
-done x = Ok x
+with_token : (place : ℕ) (spelled after : List ℕ) (kind : TokenKind) (tokens : List Token) → Spells spelled kind → Ends spelled after kind → AreTokens (place + length spelled) after tokens
+    → AreTokens place (spelled ++ after) (record { kind = kind; start = place; end = place + length spelled } ∷ tokens)
+with_token place spelled after kind tokens spells ends h = ([], spelled, after, refl, tt, sym (add-zero place), refl, spells, ends, h)
 
-ok_is : {A : Type 0} (x y : A) → done x ≡ done y → x ≡ y
-ok_is x y e = cc
+with_lexeme : (place : ℕ) (bytes after : List ℕ) (kind : Option TokenKind) (tokens : List Token) → IsKind bytes after kind → AreTokens (place + length bytes) after tokens → AreTokens place (bytes ++ after) (token_of place (place + length bytes) kind ++ tokens)
+with_lexeme place bytes after None tokens is h = with_blank place bytes after tokens is h
+with_lexeme place bytes after (Some kind) tokens is h = with_token place bytes after kind tokens is.0 is.1 h
 
--- the value of a step that did not fail
-bind_ok : {A B : Type 0} (r : Result A Fault) (f : A → Result B Fault) (y : B) → (r >>= f) ≡ Ok y → (x : A) × (r ≡ Ok x) × (f x ≡ Ok y)
-bind_ok (Ok x) f y e = (x, refl, e)
-bind_ok (Err d) f y e = absurd cc
+step : (place : ℕ) (bytes : List ℕ) (lexeme : Lexeme) (tokens : List Token) → IsLexeme bytes lexeme → AreTokens (place + lexeme.len) (drop lexeme.len bytes) tokens → AreTokens place bytes (token_of place (place + lexeme.len) lexeme.kind ++ tokens)
+step place bytes lexeme tokens is h =
+    let front = take lexeme.len bytes in
+    let after = drop lexeme.len bytes in
+    let all : length front ≡ lexeme.len = length-take-le lexeme.len bytes is.within in
+    let whole = with_lexeme place front after lexeme.kind tokens is.is (subst (λ (n : ℕ). AreTokens (place + n) after tokens) (sym all) h) in
+    subst (λ (b : List ℕ). AreTokens place b (token_of place (place + lexeme.len) lexeme.kind ++ tokens)) (take-append-drop lexeme.len bytes)
+    (subst (λ (n : ℕ). AreTokens place (front ++ after) (token_of place (place + n) lexeme.kind ++ tokens)) all whole)
 
--- which way a test went
-chosen : {A : Type 0} (b : Bool) (x y z : A) → cond b x y ≡ z → ((b ≡ true) × (x ≡ z)) ⊎ ((b ≡ false) × (y ≡ z))
-chosen true x y z e = inl (refl, e)
-chosen false x y z e = inr (refl, e)
+from_rest : (place n byte : ℕ) (bytes : List ℕ) (tokens : List Token) → 0 < n → AreTokens ((place + 1) + (n - 1)) (drop (n - 1) bytes) tokens → AreTokens (place + n) (drop n (byte ∷ bytes)) tokens
+from_rest place zero byte bytes tokens some h = absurd (omega arith)
+from_rest place (suc k) byte bytes tokens some h =
+    let back : suc k - 1 ≡ k = omega arith in
+    let there : (place + 1) + k ≡ place + suc k = omega arith in
+    subst (λ (n : ℕ). AreTokens n (drop k bytes) tokens) there (subst (λ (j : ℕ). AreTokens ((place + 1) + j) (drop j bytes) tokens) back h)
 
-blank_is : (bytes : List ℕ) → 0 < length bytes → IsLexeme bytes blank
-blank_is bytes some = record { some = omega arith; within = omega arith; spelled = tt }
-
-word_is : (bytes : List ℕ) → 0 < length bytes → is_word_byte (get_or bytes 0 0) ≡ true → IsLexeme bytes (word_at bytes)
-unfolding word_at
-word_is [] some first = absurd (omega arith)
-word_is (byte ∷ bytes) some first =
-    record {
-      some = rw first (omega arith);
-      within = prefix_len-le-length is_word_byte (byte ∷ bytes);
-      spelled = (refl, run_passes is_word_byte (byte ∷ bytes));
-    }
-
-number_is : (place : ℕ) (bytes : List ℕ) (lexeme : Lexeme) → 0 < length bytes → is_ascii_digit (get_or bytes 0 0) ≡ true → number_at place bytes ≡ Ok lexeme → IsLexeme bytes lexeme
-unfolding number_at
-number_is place [] lexeme some first e = absurd (omega arith)
-number_is place (byte ∷ bytes) lexeme some first e =
-    let len = prefix_len is_ascii_digit (byte ∷ bytes) in
-    let number : Lexeme = record { kind = Some (kinds.Number (digits_value 10 (take len (byte ∷ bytes)))); len = len } in
-    let bad : Result Lexeme Fault = cond (is_word_byte (get_or (byte ∷ bytes) len 0)) (Err (fault BadByte (place + len))) (Ok number) in
-    elim (chosen (ltb 38 len) (Err (fault NumberTooLong place)) bad (Ok lexeme) e) [
-      | inl long ↦ absurd cc
-      | inr short ↦ elim (chosen (is_word_byte (get_or (byte ∷ bytes) len 0)) (Err (fault BadByte (place + len))) (Ok number) (Ok lexeme) short.1) [
-        | inl followed ↦ absurd cc
-        | inr free ↦ subst (IsLexeme (byte ∷ bytes)) (ok_is number lexeme free.1) (record {
-          some = rw first (omega arith);
-          within = prefix_len-le-length is_ascii_digit (byte ∷ bytes);
-          spelled = (refl, digits_of_run (byte ∷ bytes));
-        })
-      ]
-    ]
-
-sign_is : (place : ℕ) (bytes : List ℕ) (found : Option Sign) (lexeme : Lexeme) → sign_at bytes ≡ found → sign_lexeme place found ≡ Ok lexeme → IsLexeme bytes lexeme
-sign_is place bytes None lexeme here e = absurd cc
-sign_is place bytes (Some sign) lexeme here e =
-    let found : Lexeme = record { kind = Some (kinds.Sign sign); len = length (spelling sign) } in
-    let stands = sign_stands bytes sign here in
-    let last = last_of_sign sign in
-    subst (IsLexeme bytes) (ok_is found lexeme e) (record {
-      some = omega (arith, last.1);
-      within = omega (arith, ap length stands ∙ length-append (spelling sign) (drop (length (spelling sign)) bytes));
-      spelled = ap (take (length (spelling sign))) stands ∙ take_at (spelling sign) (drop (length (spelling sign)) bytes) (length (spelling sign)) refl;
-    })
-
-pub lexeme_is : (place : ℕ) (bytes : List ℕ) (lexeme : Lexeme) → 0 < length bytes → lexeme_at place bytes ≡ Ok lexeme → IsLexeme bytes lexeme
-unfolding lexeme_at
-lexeme_is place bytes lexeme some e =
-    let first = get_or bytes 0 0 in
-    let sign : Result Lexeme Fault = sign_lexeme place (sign_at bytes) in
-    let word : Result Lexeme Fault = cond (is_word_byte first) (Ok (word_at bytes)) sign in
-    let number : Result Lexeme Fault = cond (is_ascii_digit first) (number_at place bytes) word in
-    elim (chosen (is_space first) (Ok blank) number (Ok lexeme) e) [
-      | inl space ↦ subst (IsLexeme bytes) (ok_is blank lexeme space.1) (blank_is bytes some)
-      | inr a ↦ elim (chosen (is_ascii_digit first) (number_at place bytes) word (Ok lexeme) a.1) [
-        | inl digit ↦ number_is place bytes lexeme some digit.0 digit.1
-        | inr b ↦ elim (chosen (is_word_byte first) (Ok (word_at bytes)) sign (Ok lexeme) b.1) [
-          | inl letter ↦ subst (IsLexeme bytes) (ok_is (word_at bytes) lexeme letter.1) (word_is bytes some letter.0)
-          | inr other ↦ sign_is place bytes (sign_at bytes) lexeme refl other.1
-        ]
-      ]
-    ]
-
--- what the tokens from a place on owe to the whole text
-abbrev Lawful : List ℕ → ℕ → List Token → Type 0
-Lawful text from tokens = SpansRise from (length text) tokens × AllByRecursion (λ token. Spells (slice_range text token.start token.end) token.kind) tokens
-
-earlier : (text : List ℕ) (place len : ℕ) (tokens : List Token) → SpansRise (place + len) (length text) tokens → SpansRise place (length text) tokens
-earlier text place len [] rise = omega arith
-earlier text place len (token ∷ tokens) rise = (omega arith, rise.1, rise.2)
-
-with_token : (text : List ℕ) (place len : ℕ) (kind : Option TokenKind) (tokens : List Token) → 0 < len → IfSome kind (Spells (take len (drop place text))) → Lawful text (place + len) tokens → Lawful text place (token_of place (place + len) kind ++ tokens)
-with_token text place len None tokens some spelled rest = (earlier text place len tokens rest.0, rest.1)
-with_token text place len (Some kind) tokens some spelled rest =
-    let there : (place + len) - place ≡ len = omega arith in
-    ((omega arith, omega arith, rest.0), (rw there spelled, rest.1))
-
-next_bytes : (text : List ℕ) (place byte : ℕ) (bytes : List ℕ) → drop place text ≡ byte ∷ bytes → drop (place + 1) text ≡ bytes
-next_bytes text place byte bytes here = sym (drop-drop 1 place text) ∙ ap (drop 1) here
-
-pub lawful_from : (text : List ℕ) (inside place : ℕ) (bytes : List ℕ) (tokens : List Token) → drop place text ≡ bytes → inside ≤ length bytes → place + length bytes ≡ length text → tokens_from inside place bytes ≡ Ok tokens → Lawful text (place + inside) tokens
+are_tokens_from : (inside place : ℕ) (bytes : List ℕ) (tokens : List Token) → inside ≤ length bytes → tokens_from inside place bytes ≡ Ok tokens → AreTokens (place + inside) (drop inside bytes) tokens
 unfolding tokens_from
-lawful_from text inside place [] tokens here within all e =
-    subst (Lawful text (place + inside)) (ok_is [] tokens e) (omega arith, tt)
-lawful_from text (suc inside) place (byte ∷ bytes) tokens here within all e =
+are_tokens_from zero place [] tokens within e = subst (AreTokens (place + 0) []) (ok_is [] tokens e) ([], refl, tt)
+are_tokens_from (suc inside) place [] tokens within e = absurd (omega arith)
+are_tokens_from (suc inside) place (byte ∷ bytes) tokens within e =
     let there : (place + 1) + inside ≡ place + suc inside = omega arith in
-    subst (λ (n : ℕ). Lawful text n tokens) there (lawful_from text inside (place + 1) bytes tokens (next_bytes text place byte bytes here) (omega arith) (omega arith) e)
-lawful_from text zero place (byte ∷ bytes) tokens here within all e =
+    subst (λ (n : ℕ). AreTokens n (drop inside bytes) tokens) there (are_tokens_from inside (place + 1) bytes tokens (omega arith) e)
+are_tokens_from zero place (byte ∷ bytes) tokens within e =
     let first = bind_ok (lexeme_at place (byte ∷ bytes)) (λ lexeme. tokens_from (lexeme.len - 1) (place + 1) bytes >>= λ tokens. Ok (token_of place (place + lexeme.len) lexeme.kind ++ tokens)) tokens e in
-    let lexeme = first.0 in
-    let is = lexeme_is place (byte ∷ bytes) lexeme (omega arith) first.1 in
-    let later = bind_ok (tokens_from (lexeme.len - 1) (place + 1) bytes) (λ tokens. Ok (token_of place (place + lexeme.len) lexeme.kind ++ tokens)) tokens first.2 in
-    let rest = lawful_from text (lexeme.len - 1) (place + 1) bytes later.0 (next_bytes text place byte bytes here) (omega (arith, is.some, is.within)) (omega arith) later.1 in
-    let there : (place + 1) + (lexeme.len - 1) ≡ place + lexeme.len = omega (arith, is.some) in
-    let whole = with_token text place lexeme.len lexeme.kind later.0 is.some (rw here is.spelled) (subst (λ (n : ℕ). Lawful text n later.0) there rest) in
-    subst (λ (n : ℕ). Lawful text n tokens) (sym (add-zero place)) (subst (Lawful text place) (ok_is (token_of place (place + lexeme.len) lexeme.kind ++ later.0) tokens later.2) whole)
+    let is = lexeme_is place (byte ∷ bytes) first.0 (omega arith) first.1 in
+    let later = bind_ok (tokens_from (first.0.len - 1) (place + 1) bytes) (λ tokens. Ok (token_of place (place + first.0.len) first.0.kind ++ tokens)) tokens first.2 in
+    let rest = are_tokens_from (first.0.len - 1) (place + 1) bytes later.0 (omega (arith, is.some, is.within)) later.1 in
+    let whole = step place (byte ∷ bytes) first.0 later.0 is (from_rest place first.0.len byte bytes later.0 is.some rest) in
+    subst (λ (n : ℕ). AreTokens n (byte ∷ bytes) tokens) (sym (add-zero place)) (subst (AreTokens place (byte ∷ bytes)) (ok_is (token_of place (place + first.0.len) first.0.kind ++ later.0) tokens later.2) whole)
 
-pub lawful : (text : List ℕ) (tokens : List Token) → tokens_of text ≡ Ok tokens → SpansRise 0 (length text) tokens × AllSpelled text tokens
-lawful text tokens e =
-    let all = lawful_from text 0 0 text tokens refl (omega arith) (omega arith) e in
-    (all.0, All-from_recursion (λ token. Spells (slice_range text token.start token.end) token.kind) tokens all.1)
+-- a text that was read is its tokens and blanks
+pub are_tokens : (text : List ℕ) (tokens : List Token) → tokens_of text ≡ Ok tokens → AreTokens 0 text tokens
+are_tokens text tokens e = are_tokens_from 0 0 text tokens (omega arith) e
+
+quotes_some : (quote : ℕ) (bytes held : List ℕ) → InQuotes quote bytes held → 0 < length bytes
+quotes_some quote bytes held h = omega (arith, ap length h.2)
+
+pub spells_some : (bytes : List ℕ) (kind : TokenKind) → Spells bytes kind → 0 < length bytes
+spells_some bytes (Word word) h = h.1
+spells_some bytes (QuotedName name) h = quotes_some 96 bytes name h.0
+spells_some bytes (Text text) h = elim h.0 [ inl single ↦ quotes_some 39 bytes text single | inr double ↦ quotes_some 34 bytes text double ]
+spells_some bytes (Number number) h = h.1
+spells_some bytes (Sign sign) h = omega (arith, ap length h, (last_of_sign sign).1)
+
+spans_rise : (place : ℕ) (bytes : List ℕ) (tokens : List Token) → AreTokens place bytes tokens → SpansRise place (place + length bytes) tokens
+spans_rise place bytes [] h = omega arith
+spans_rise place bytes (token ∷ tokens) h =
+    let some = spells_some h.1 token.kind h.7 in
+    let later = spans_rise token.end h.2 tokens h.9 in
+    let all : token.end + length h.2 ≡ place + length bytes = omega (arith, h.5, h.6, ap length h.3, length-append (concat h.0) (h.1 ++ h.2), length-append h.1 h.2) in
+    (omega (arith, h.5), omega (arith, h.6), subst (λ (n : ℕ). SpansRise token.end n tokens) all later)
+
+pub all_rise : (text : List ℕ) (tokens : List Token) → AreTokens 0 text tokens → SpansRise 0 (length text) tokens
+all_rise text tokens h =
+    let all : 0 + length text ≡ length text = omega arith in
+    subst (λ (n : ℕ). SpansRise 0 n tokens) all (spans_rise 0 text tokens h)
+
+-- what stands behind some bytes of the text
+behind : (text : List ℕ) (place : ℕ) (front rest : List ℕ) → drop place text ≡ front ++ rest → drop (place + length front) text ≡ rest
+behind text place front rest e = sym (drop-drop (length front) place text) ∙ ap (drop (length front)) e ∙ drop-append_seam front rest
+
+spelled_from : (text : List ℕ) (place : ℕ) (bytes : List ℕ) (tokens : List Token) → drop place text ≡ bytes → AreTokens place bytes tokens → AllByRecursion (λ token. Spells (slice_range text token.start token.end) token.kind) tokens
+spelled_from text place bytes [] here h = tt
+spelled_from text place bytes (token ∷ tokens) here h =
+    let start : drop token.start text ≡ h.1 ++ h.2 = subst (λ (n : ℕ). drop n text ≡ h.1 ++ h.2) (sym h.5) (behind text place (concat h.0) (h.1 ++ h.2) (here ∙ h.3)) in
+    let end : drop token.end text ≡ h.2 = subst (λ (n : ℕ). drop n text ≡ h.2) (sym h.6) (behind text token.start h.1 h.2 start) in
+    let long : token.end - token.start ≡ length h.1 = omega (arith, h.6) in
+    let stands : slice_range text token.start token.end ≡ h.1 = ap (λ (n : ℕ). take n (drop token.start text)) long ∙ ap (take (length h.1)) start ∙ take-append_seam h.1 h.2 in
+    (subst (λ (b : List ℕ). Spells b token.kind) (sym stands) h.7, spelled_from text token.end h.2 tokens end h.9)
+
+pub all_spelled : (text : List ℕ) (tokens : List Token) → AreTokens 0 text tokens → AllSpelled text tokens
+all_spelled text tokens h = All-from_recursion (λ token. Spells (slice_range text token.start token.end) token.kind) tokens (spelled_from text 0 text tokens refl h)

@@ -1,4 +1,16 @@
+pub mod Results
 pub mod Cuts
 pub mod Runs
 pub mod Steps
+pub mod Closes
+pub mod Held
+pub mod Openings
+pub mod Ends
+pub mod Longest
+pub mod Quotes
+pub mod Enclosed
+pub mod Lexemes
 pub mod Laws
+pub mod Pieces
+pub mod Again
+pub mod Unique

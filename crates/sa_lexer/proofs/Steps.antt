@@ -5,8 +5,9 @@ use Rattle.sa_lexer.specs.declared.fault.LexFault.{LexFault}
 use Rattle.sa_lexer.specs.declared.fault.LexFault.TheVariants.{Bad, OutOfMemory}
 use Rattle.sa_lexer.specs.declared.lexeme.Lexeme.{Lexeme}
 use Rattle.sa_lexer.specs.declared.token.Token.{Token}
-use Rattle.sa_lexer.specs.Lexeme.{Fault, Gives, lexeme_at}
-use Rattle.sa_lexer.specs.Tokens.{◌>>=◌, token_of, tokens_from}
+use Rattle.sa_lexer.specs.Fault.{Fault, Gives, ◌>>=◌}
+use Rattle.sa_lexer.specs.Lexeme.{lexeme_at}
+use Rattle.sa_lexer.specs.Tokens.{token_of, tokens_from}
 
 -- what was read before, and what is still read
 abbrev pub with_front : List Token → Result (List Token) Fault → Result (List Token) Fault

@@ -9,3 +9,7 @@ is_space byte = (nat_le 9 byte && nat_le byte 13) || byte == 32
 -- A word has letters, digits, `_`, `$` and characters past ASCII.
 abbrev pub is_word_byte : ℕ → Bool
 is_word_byte byte = ((is_ascii_alphanumeric byte || byte == 95) || byte == 36) || nat_le 128 byte
+
+-- A text stands in single or double quotes, a name in backquotes.
+abbrev pub is_quote : ℕ → Bool
+is_quote byte = (byte == 39 || byte == 34) || byte == 96

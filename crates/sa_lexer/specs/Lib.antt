@@ -1,5 +1,10 @@
 pub mod Byte
+pub mod Fault
 pub mod Sign
+pub mod Opening
+pub mod Quoted
 pub mod Lexeme
 pub mod Tokens
 pub mod Spans
+pub mod Grammar
+pub mod Piece

@@ -1,13 +1,9 @@
 -- The tokens of a text, from left to right, up to the first fault.
-use Rattle.std.specs.Prelude.{ℕ, zero, suc, ◌+◌, ◌-◌, List, [], ◌∷◌, ◌++◌, Option, Some, None, Result, Ok, Err}
+use Rattle.std.specs.Prelude.{ℕ, zero, suc, ◌+◌, ◌-◌, List, [], ◌∷◌, ◌++◌, Option, Some, None, Result, Ok}
 use Rattle.sa_lexer.specs.declared.token.Token.{Token}
 use Rattle.sa_lexer.specs.declared.token.TokenKind.{TokenKind}
-use Rattle.sa_lexer.specs.Lexeme.{Fault, lexeme_at}
-
-infixl 10 ◌>>=◌
-abbrev pub ◌>>=◌ : {A B : Type 0} → Result A Fault → (A → Result B Fault) → Result B Fault
-(Ok found) >>= next = next found
-(Err fault) >>= next = Err fault
+use Rattle.sa_lexer.specs.Fault.{Fault, ◌>>=◌}
+use Rattle.sa_lexer.specs.Lexeme.{lexeme_at}
 
 -- The token that a lexeme from start to end is. A blank is none.
 abbrev pub token_of : ℕ → ℕ → Option TokenKind → List Token

@@ -1,14 +1,17 @@
-ghost use Rattle.std.specs.Prelude.{◌≡◌, ◌+◌, ◌<◌, ◌≤◌, ◌^◌, length, slice_index, IsTrue, IfOk};
+ghost use Rattle.std.specs.Prelude.{◌≡◌, ◌+◌, ◌-◌, ◌<◌, ◌≤◌, ◌^◌, length, slice_index, IsTrue, IfOk};
 ghost use Rattle.std.specs.Char.{is_ascii_digit};
 ghost use Rattle.std.specs.List.{prefix_len};
 ghost use Rattle.std.specs.Str.{IsCharBoundary, all_ascii_digits};
 ghost use Rattle.std.specs.Str.Parse.{digits_value};
-ghost use Rattle.sa_lexer.specs.Byte.{is_word_byte};
+ghost use Rattle.sa_lexer.specs.Byte.{is_word_byte, is_quote};
+ghost use Rattle.sa_lexer.specs.Fault.{Gives};
 ghost use Rattle.sa_lexer.specs.Sign.{sign_at};
-ghost use Rattle.sa_lexer.specs.Lexeme.{Gives, word_at, number_at, sign_lexeme, lexeme_at};
+ghost use Rattle.sa_lexer.specs.Lexeme.{word_at, number_at, sign_lexeme, plain_at, quoted_at, lexeme_at};
 
 use crate::byte::{is_space, is_word_byte};
 use crate::fault::{LexFault, LexKind};
+use crate::opening::{Opening, is_executable, len_at, opening_of};
+use crate::quoted::unquoted;
 use crate::sign::Sign;
 use crate::token::TokenKind;
 use sa_value::Text;
@@ -24,12 +27,39 @@ pub(crate) struct Lexeme {
 /// The most digits that a number may have.
 const MOST_DIGITS: usize = 38;
 
+/// The most bytes that a text may hold.
+const MOST_BYTES: usize = 255;
+
 /// The lexeme that the rest of a text, from `place` on, begins with.
 #[tactic(auto, unfolding(crate::specs::Lexeme::lexeme_at))]
 pub(crate) fn first_lexeme(alloc: Global, rest: &str, place: usize) -> Result<Lexeme, LexFault>
     requires some { 0 < length rest.now }
     requires within { place + length rest.now < 2 ^ 64 }
     ensures exact { Gives result (lexeme_at place rest.now) }
+    ensures some { IfOk result (λ lexeme. 0 < lexeme.len) }
+    ensures cut { IfOk result (λ lexeme. IsCharBoundary rest.now lexeme.len) }
+{
+    let bytes = rest.as_bytes();
+    if is_executable(bytes) {
+        return Err(LexFault::Bad {
+            kind: LexKind::BadByte,
+            place,
+        });
+    }
+    let len = len_at(bytes, place)?;
+    match opening_of(bytes) {
+        Opening::LineComment | Opening::Comment => Ok(Lexeme { kind: None, len }),
+        Opening::Quoted => quoted(alloc, &rest[..len], place),
+        Opening::Plain => plain(alloc, rest, place),
+    }
+}
+
+/// The lexeme at the front that is neither a comment nor in quotes.
+#[tactic(auto, unfolding(crate::specs::Lexeme::plain_at))]
+fn plain(alloc: Global, rest: &str, place: usize) -> Result<Lexeme, LexFault>
+    requires some { 0 < length rest.now }
+    requires within { place + length rest.now < 2 ^ 64 }
+    ensures exact { Gives result (plain_at place rest.now) }
     ensures some { IfOk result (λ lexeme. 0 < lexeme.len) }
     ensures cut { IfOk result (λ lexeme. IsCharBoundary rest.now lexeme.len) }
 {
@@ -43,6 +73,41 @@ pub(crate) fn first_lexeme(alloc: Global, rest: &str, place: usize) -> Result<Le
     } else {
         sign(rest, place)
     }
+}
+
+/// The text or the name that a part with both its quotes is.
+#[tactic(auto, unfolding(crate::specs::Lexeme::quoted_at))]
+fn quoted(alloc: Global, part: &str, place: usize) -> Result<Lexeme, LexFault>
+    requires long { 1 < length part.now }
+    requires quoted { IsTrue (is_quote (slice_index part.now 0)) }
+    requires closed { slice_index part.now (length part.now - 1) ≡ slice_index part.now 0 }
+    ensures exact { Gives result (quoted_at place part.now) }
+    ensures len { IfOk result (λ lexeme. lexeme.len ≡ length part.now) }
+{
+    let quote = part.as_bytes()[0];
+    let held = unquoted(alloc, quote, &part[1..part.len() - 1])?;
+    let size = held.as_str().len();
+    let kind = if quote == b'`' {
+        if size == 0 {
+            return Err(LexFault::Bad {
+                kind: LexKind::BadByte,
+                place,
+            });
+        }
+        TokenKind::QuotedName(held)
+    } else {
+        if size > MOST_BYTES {
+            return Err(LexFault::Bad {
+                kind: LexKind::TextTooLong,
+                place,
+            });
+        }
+        TokenKind::Text(held)
+    };
+    Ok(Lexeme {
+        kind: Some(kind),
+        len: part.len(),
+    })
 }
 
 /// The word at the front, whose first byte is a word's.

@@ -1,17 +1,21 @@
-//! The tokens of a text in SQL: words, numbers and signs, each with the bytes that it spans.
+//! The tokens of a text in SQL, each with the bytes that it spans, and where the pieces of a script end.
 //!
-//! The parser reads these tokens. The first fault of a text, and its exact place, is answered for the
-//! person who wrote it.
+//! The parser reads these tokens, and the reader of scripts cuts at these ends. The first fault of a
+//! text, and its exact place, is answered for the person who wrote it.
 #![tactic(auto)]
 
 mod byte;
 mod fault;
 mod lexeme;
+mod opening;
+mod piece;
+mod quoted;
 mod reading;
 mod sign;
 mod token;
 
 pub use fault::{LexFault, LexKind};
+pub use piece::{PieceEnd, piece_end};
 pub use reading::tokens;
 pub use sign::Sign;
 pub use token::{Token, TokenKind, Tokens};

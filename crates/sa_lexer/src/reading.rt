@@ -1,7 +1,9 @@
-ghost use Rattle.std.specs.Prelude.{◌≡◌, IfOk, length};
-ghost use Rattle.sa_lexer.specs.Lexeme.{Gives};
+ghost use Rattle.std.specs.Prelude.{◌≡◌, List, IfOk, Ok, length};
+ghost use Rattle.sa_lexer.specs.declared.token.Token.{Token};
+ghost use Rattle.sa_lexer.specs.Fault.{Gives};
 ghost use Rattle.sa_lexer.specs.Tokens.{tokens_of};
 ghost use Rattle.sa_lexer.specs.Spans.{SpansRise, AllSpelled};
+ghost use Rattle.sa_lexer.specs.Grammar.{AreTokens};
 
 use crate::fault::LexFault;
 use crate::lexeme::{Lexeme, first_lexeme};
@@ -12,6 +14,10 @@ use std::alloc::Global;
 pub fn tokens(alloc: Global, text: &str) -> Result<Tokens, LexFault>
     // The tokens are those of the definition, and so is the fault.
     ensures exact { Gives result (tokens_of text.now) }
+    // Between them are blanks alone, and each is as long as it can be.
+    ensures whole { IfOk result (λ tokens. AreTokens 0 text.now tokens) }
+    // A text that is such tokens is read as them, and as no others.
+    ensures only { (tokens : List Token) → AreTokens 0 text.now tokens → Gives result (Ok tokens) }
     ensures rise { IfOk result (λ tokens. SpansRise 0 (length text.now) tokens) }
     ensures spelled { IfOk result (λ tokens. AllSpelled text.now tokens) }
 {

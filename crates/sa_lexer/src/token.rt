@@ -9,6 +9,10 @@ use std::marker::Model;
 pub enum TokenKind {
     /// A keyword or a name, as it is written.
     Word(Text),
+    /// A name in backquotes, with doubled backquotes undone.
+    QuotedName(Text),
+    /// A text in quotes, with doubled quotes and escapes undone.
+    Text(Text),
     /// A number of up to 38 digits.
     Number(u128),
     /// A sign.

@@ -1,19 +1,25 @@
-use Rattle.std.proofs.Common.{◌≡◌, ◌+◌, ◌<◌, ◌++◌, ◌∙◌, length, arith, sym, ap, Vec, Global, Ok}
+use Rattle.std.proofs.Common.{◌≡◌, ◌+◌, ◌<◌, ◌++◌, ◌∙◌, List, Result, length, arith, sym, ap, subst, Vec, Global}
 use Rattle.std.proofs.lemmas.Bool.Decides.{nat_tests}
 use Rattle.std.proofs.lemmas.List.{append-nil}
 use Rattle.std.proofs.lemmas.Result.{err_from_is_err_and}
 use Rattle.sa_lexer.specs.declared.token.Token.{Token}
-use Rattle.sa_lexer.specs.Tokens.{tokens_of, token_of}
-use Rattle.sa_lexer.proofs.Laws.{lawful}
+use Rattle.sa_lexer.specs.Fault.{Fault, Gives}
+use Rattle.sa_lexer.specs.Tokens.{token_of, tokens_of}
+use Rattle.sa_lexer.proofs.Laws.{are_tokens, all_rise, all_spelled}
 use Rattle.sa_lexer.proofs.Steps.{goes_on, ends, is_done}
+use Rattle.sa_lexer.proofs.Unique.{only_reading}
 use Rattle.sa_lexer.proofs.reading.tokens.Goals as goal
 use Rattle.sa_lexer.proofs.reading.tokens.Goals.{in-Some+in_ok-push, in_default}
 
-pub returns-in_err-kind : goal.returns-in_err-kind
-returns-in_err-kind c =
+pub returns-in_err-kind-clause-exact : goal.returns-in_err-kind-clause-exact
+returns-in_err-kind-clause-exact c =
     let p = err_from_is_err_and c.from_residual.result c.from_residual.ensures.1 in
     let some : 0 < length c.loop-rest.rest.now = grind (arith, nat_tests) in
-    record { rise = rw p.1 tt; spelled = rw p.1 tt; exact = rw (p.1, p.2) (ends c.in_err-kind.field-0.0 c.loop-rest.tokens.items c.loop-rest.place c.loop-rest.rest.now (tokens_of c.args.text.now) some c.in_err-kind.ensures.exact c.loop-rest.invariant.2) }
+    rw (p.1, p.2) (ends c.in_err-kind.field-0.0 c.loop-rest.tokens.items c.loop-rest.place c.loop-rest.rest.now (tokens_of c.args.text.now) some c.in_err-kind.ensures.exact c.loop-rest.invariant.2)
+
+pub returns-in_err-kind-clause-only : goal.returns-in_err-kind-clause-only
+returns-in_err-kind-clause-only c = λ tokens h.
+    subst (λ (read : Result (List Token) Fault). Gives c.from_residual.result read) (only_reading c.args.text.now tokens h) (returns-in_err-kind-clause-exact c)
 
 pub loop-rest-preserved : goal.loop-rest-preserved
 loop-rest-preserved c =
@@ -30,9 +36,19 @@ loop-rest-preserved c =
     let next = goes_on front place rest lexeme (tokens_of c.args.text.now) some c.in_ok-kind.ensures.some c.in_ok-kind.ensures.exact c.loop-rest.invariant.2 in
     (c.range_from-rest.utf8, omega (arith, c.range_from-rest.ensures.len), rw (all, c.range_from-rest.ensures.value) next)
 
-pub returns : goal.returns
-returns c =
+pub returns-clause-exact : goal.returns-clause-exact
+returns-clause-exact c =
     let none : length c.loop-rest.rest.now ≡ 0 = grind (arith, nat_tests) in
-    let all : tokens_of c.args.text.now ≡ Ok c.from_vec.result = rw c.from_vec.ensures (is_done c.loop-rest.tokens.items c.loop-rest.place c.loop-rest.rest.now (tokens_of c.args.text.now) none c.loop-rest.invariant.2) in
-    let laws = lawful c.args.text.now c.from_vec.result all in
-    record { exact = all; rise = laws.0; spelled = laws.1 }
+    rw c.from_vec.ensures (is_done c.loop-rest.tokens.items c.loop-rest.place c.loop-rest.rest.now (tokens_of c.args.text.now) none c.loop-rest.invariant.2)
+
+pub returns-clause-whole : goal.returns-clause-whole
+returns-clause-whole c = are_tokens c.args.text.now c.from_vec.result (returns-clause-exact c)
+
+pub returns-clause-only : goal.returns-clause-only
+returns-clause-only c = λ tokens h. sym (only_reading c.args.text.now tokens h) ∙ returns-clause-exact c
+
+pub returns-clause-rise : goal.returns-clause-rise
+returns-clause-rise c = all_rise c.args.text.now c.from_vec.result (returns-clause-whole c)
+
+pub returns-clause-spelled : goal.returns-clause-spelled
+returns-clause-spelled c = all_spelled c.args.text.now c.from_vec.result (returns-clause-whole c)
