@@ -1,5 +1,6 @@
 -- Calls that are counted, of which chosen ones fail.
-use Rattle.std.specs.Prelude.{ℕ, ◌+◌, ◌-◌, ◌^◌, min, List, Contains}
+use Rattle.std.specs.Prelude.{ℕ, ◌+◌, List, Contains}
+use Rattle.sa_source.specs.Source.{raised}
 
 -- the numbers of the calls that fail, and how many calls and faults there were
 pub record Calls : Type 0 where
@@ -10,10 +11,6 @@ pub record Calls : Type 0 where
 -- before the first call
 abbrev pub no_calls : List ℕ → Calls
 no_calls failing = record { failing = failing; made = 0; faults = 0 }
-
--- One more, up to the last value of 64 bits.
-abbrev pub raised : ℕ → ℕ
-raised n = min (n + 1) (2 ^ 64 - 1)
 
 -- The next call is one that fails: its number, counted from 1, is among the chosen ones.
 abbrev pub FailsNext : Calls → Type 0

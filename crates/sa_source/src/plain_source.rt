@@ -1,4 +1,4 @@
-ghost use Rattle.std.specs.Prelude.{◌≡◌, ◌++◌, min, length, take, drop, Ok, Some, IfOk};
+ghost use Rattle.std.specs.Prelude.{◌≡◌, ◌<◌, [], ◌++◌, min, length, take, drop, Ok, Some, IfOk};
 
 use crate::source::{Failed, Source};
 use std::marker::Model;
@@ -38,6 +38,7 @@ impl Source for PlainSource {
 
     fn read(&mut self, buffer: &mut [u8]) -> Result<usize, Failed>
         ensures count { result ≡ Ok (min (length buffer.old) (length self.old)) }
+        ensures end { IfOk result (λ n. n ≡ 0 → 0 < length buffer.old → self.old ≡ []) }
         ensures rest { IfOk result (λ n. self.new ≡ drop n self.old) }
         ensures filled { IfOk result (λ n. buffer.new ≡ take n self.old ++ drop n buffer.old) }
     {

@@ -1,6 +1,6 @@
 ghost use Rattle.std.specs.Prelude.{◌≡◌, ◌≤◌, ◌<◌, length, IfOk, OnOk, OnErr, IsOkUnless};
 ghost use Rattle.std.specs.Io.KnownBytes.{WriteAppends};
-ghost use Rattle.sa_source.specs.Calls.{raised};
+ghost use Rattle.sa_source.specs.Source.{raised};
 
 use crate::sink::{Sink, SinkFault};
 use std::io::Write;

@@ -1,6 +1,6 @@
 ghost use Rattle.std.specs.Prelude.{◌≡◌, ◌≤◌, length, IfOk, OnOk, OnErr};
 ghost use Rattle.std.specs.Io.KnownBytes.{ReadConsumes};
-ghost use Rattle.sa_source.specs.Calls.{raised};
+ghost use Rattle.sa_source.specs.Source.{raised};
 
 use crate::source::{Failed, Source};
 use std::io::Read;
