@@ -1,4 +1,4 @@
-ghost use Rattle.std.specs.Prelude.{◌≡◌, ◌+◌, ◌<◌, ◌≤◌, ◌^◌, length, drop, IfOk, IfErr, IfSome, IfNone};
+ghost use Rattle.std.specs.Prelude.{◌≡◌, ◌<◌, ◌≤◌, length, drop, IfOk, IfErr, IfSome, IfNone};
 ghost use Rattle.sa_lexer.specs.Fault.{Answers, IsOpen};
 ghost use Rattle.sa_lexer.specs.Opening.{opening_of, is_executable, line_len, comment_close, quote_close, plus, len_at};
 

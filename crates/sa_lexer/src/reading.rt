@@ -1,4 +1,4 @@
-ghost use Rattle.std.specs.Prelude.{◌≡◌, List, IfOk, Ok, length};
+ghost use Rattle.std.specs.Prelude.{List, IfOk, Ok, length};
 ghost use Rattle.sa_lexer.specs.declared.token.Token.{Token};
 ghost use Rattle.sa_lexer.specs.Fault.{Gives};
 ghost use Rattle.sa_lexer.specs.Tokens.{tokens_of};
