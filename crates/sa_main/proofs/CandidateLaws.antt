@@ -7,7 +7,7 @@ use Rattle.sa_main.specs.declared.integer.Integer.{Integer}
 use Rattle.sa_lexer.specs.declared.sign.Sign.{Sign}
 use Rattle.sa_lexer.specs.declared.sign.Sign.TheVariants as signs
 use Rattle.sa_lexer.specs.declared.token.TokenKind.{TokenKind}
-use Rattle.sa_lexer.specs.declared.token.TokenKind.TheVariants.{Word, Number, Sign as SignToken}
+use Rattle.sa_lexer.specs.declared.token.TokenKind.TheVariants.{Word, QuotedName, Text, Number, Sign as SignToken}
 use Rattle.sa_main.specs.declared.statements.Statements.{Statements}
 use Rattle.sa_main.specs.Candidate.{integer_at, is_minus, integers_from, word_of, sign_of, word_at, sign_at, candidate_of}
 use Rattle.sa_main.specs.Form.{Spell}
@@ -57,6 +57,14 @@ first_spelled (Word word) (keyword other) negative others h = refl
 first_spelled (Word word) (name other) negative others h = refl
 first_spelled (Word word) (sign other) negative others h = absurd h
 first_spelled (Word word) (number other) negative others h = absurd h
+first_spelled (QuotedName word) (keyword other) negative others h = absurd h
+first_spelled (QuotedName word) (name other) negative others h = absurd h
+first_spelled (QuotedName word) (sign other) negative others h = absurd h
+first_spelled (QuotedName word) (number other) negative others h = absurd h
+first_spelled (Text text) (keyword other) negative others h = absurd h
+first_spelled (Text text) (name other) negative others h = absurd h
+first_spelled (Text text) (sign other) negative others h = absurd h
+first_spelled (Text text) (number other) negative others h = absurd h
 first_spelled (Number digits) (keyword other) negative others h = absurd h
 first_spelled (Number digits) (name other) negative others h = absurd h
 first_spelled (Number digits) (sign other) negative others h = absurd h
@@ -103,11 +111,15 @@ select-integers table column op literal plain =
 
 name-spelled : (kind : TokenKind) (word : List ℕ) → Spells kind (name word) → word_of kind ≡ Some word
 name-spelled (Word found) word h = ap (λ (w : List ℕ). Some w) h
+name-spelled (QuotedName found) word h = absurd h
+name-spelled (Text found) word h = absurd h
 name-spelled (Number digits) word h = absurd h
 name-spelled (SignToken found) word h = absurd h
 
 sign-spelled : (kind : TokenKind) (op : Sign) → Spells kind (sign op) → sign_of kind ≡ Some op
 sign-spelled (Word found) op h = absurd h
+sign-spelled (QuotedName found) op h = absurd h
+sign-spelled (Text found) op h = absurd h
 sign-spelled (Number digits) op h = absurd h
 sign-spelled (SignToken found) op h = ap (λ (s : Sign). Some s) h
 

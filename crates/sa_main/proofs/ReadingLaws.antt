@@ -1,6 +1,7 @@
 -- Why nothing but a script of the form is read, and no such script is refused.
 use Rattle.std.proofs.Common.{◌≡◌, ℕ, Bool, true, false, List, refl, sym, subst, ◌∙◌, ap}
-use Rattle.std.specs.Prelude.{Option, Some, None}
+use Rattle.std.specs.Prelude.{Option, Some, None, IsTrue}
+use Rattle.sa_main.specs.Comment.{HasComment}
 use Rattle.sa_value.specs.declared.truth.CompareOp.{CompareOp}
 use Rattle.sa_lexer.specs.declared.sign.Sign.{Sign}
 use Rattle.sa_lexer.specs.declared.sign.Sign.TheVariants as signs
@@ -63,3 +64,7 @@ is_candidate bytes script statements written h cut found =
 pub refused : {Y : Type 0} (fault : ReadFault) (read : Option Y) → Fails fault read → fault ≡ NotBuilt → read ≡ None
 refused NotBuilt read h same = h
 refused OutOfMemory read h same = absurd cc
+
+-- a test for comments that found none
+pub no_comment_in : (bytes text : List ℕ) (found : Bool) → text ≡ bytes → (HasComment text → IsTrue found) → found ≡ false → HasComment bytes → ⊥
+no_comment_in bytes text found same test none comment = let yes = test (subst HasComment (sym same) comment) in absurd cc

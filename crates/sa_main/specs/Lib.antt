@@ -2,6 +2,7 @@ pub mod Names
 pub mod Script
 pub mod Meaning
 pub mod Pieces
+pub mod Comment
 pub mod Spelling
 pub mod Statements
 pub mod Form

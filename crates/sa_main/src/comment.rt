@@ -1,4 +1,5 @@
 ghost use Rattle.std.specs.Prelude.{◌↔◌, IsTrue};
+ghost use Rattle.std.specs.Str.Iter.{HasSubslice};
 ghost use Rattle.sa_main.specs.Comment.{HasComment};
 
 /// Whether a comment begins somewhere in the text.

@@ -5,6 +5,7 @@
 
 mod analysis;
 mod candidate;
+mod comment;
 mod fault;
 mod integer;
 mod meaning;

@@ -4,6 +4,7 @@ ghost use Rattle.sa_main.specs.Meaning.{script_at};
 ghost use Rattle.sa_main.specs.Script as said;
 
 use crate::candidate::find_candidate;
+use crate::comment::has_comment;
 use crate::fault::ReadFault;
 use crate::meaning::meaning;
 use crate::script::Script;
@@ -26,6 +27,9 @@ pub fn read_script(alloc: Global, bytes: &[u8]) -> Result<Script, ReadFault>
     let Ok(text) = std::str::from_utf8(bytes) else {
         return Err(ReadFault::NotBuilt);
     };
+    if has_comment(text) {
+        return Err(ReadFault::NotBuilt);
+    }
     let statements = read_statements(alloc, text)?;
     let candidate = find_candidate(alloc, &statements)?;
     if !spells(alloc, &statements, &candidate)? {

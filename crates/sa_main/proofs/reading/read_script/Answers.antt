@@ -1,11 +1,16 @@
-use Rattle.std.proofs.Common.{◌≡◌, arith}
+use Rattle.std.proofs.Common.{◌≡◌, subst, arith}
 use Rattle.std.specs.Prelude.{Some}
 use Rattle.std.proofs.lemmas.Result.{IfOk-weaker, err_from_is_err_and}
 use Rattle.sa_main.specs.declared.fault.ReadFault.TheVariants.{NotBuilt}
 use Rattle.sa_main.specs.Candidate.{written_at}
+use Rattle.sa_main.specs.Comment.{HasComment}
 use Rattle.sa_main.specs.Statements.{statements_of}
-use Rattle.sa_main.proofs.ReadingLaws.{has_no_candidate, is_candidate, refused}
+use Rattle.sa_main.proofs.ReadingLaws.{has_no_candidate, is_candidate, no_comment_in, refused}
 use Rattle.sa_main.proofs.reading.read_script.Goals as goal
+
+pub returns-then-has_comment-clause-only : goal.returns-then-has_comment-clause-only
+returns-then-has_comment-clause-only c =
+    λ _ script h. h.no_comment (subst HasComment c.in-Ok.ensures.cases.0 (c.has_comment.ensures.0 c.if-has_comment.true))
 
 pub returns-in_err-candidate-clause-only : goal.returns-in_err-candidate-clause-only
 returns-in_err-candidate-clause-only c =
@@ -33,6 +38,7 @@ returns-clause-found c =
     (λ script h. record {
       size = omega arith;
       text = c.in-Ok.ensures.cases.1;
+      no_comment = no_comment_in c.args.bytes.now c.in-Ok.text.now c.has_comment.result c.in-Ok.ensures.cases.0 c.has_comment.ensures.1 c.if-has_comment.false;
       statements = c.in_ok-statements.statements;
       cut = cut;
       written = written_at c.in_ok-candidate.candidate;
