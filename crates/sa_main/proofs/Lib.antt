@@ -7,3 +7,4 @@ pub mod ComparisonLaws
 pub mod JournalLaws
 pub mod RunLaws
 pub mod StepLaws
+pub mod Worked

@@ -167,3 +167,6 @@ fn op_text(op: CompareOp) -> &'static str
         CompareOp::Ge => ">=",
     }
 }
+
+#[cfg(test)]
+mod tests;
