@@ -1,6 +1,4 @@
-ghost use Rattle.std.specs.Prelude.{◌≡◌, ℕ, ◌<◌, ◌≤◌, length, take, vec_len, IfOk, IsErrOf, OnOk};
-ghost use Rattle.sa_source.specs.Source.{Takes, IsAtEnd, HasRisen};
-ghost use Rattle.sa_source.specs.Sink.{Appends};
+ghost use Rattle.std.specs.Prelude.{◌<◌};
 
 use super::*;
 use std::alloc::{AllocError, Global};
@@ -8,59 +6,6 @@ use std::io;
 use std::io::ErrorKind;
 use std::process::Abort;
 use std::test::Fail;
-
-/// Why a source was not read to its end.
-#[derive(Clone, Copy, Debug, PartialEq, Eq)]
-enum ReadFault {
-    Failed,
-    OutOfMemory,
-}
-
-/// Reads through a buffer until the end, or until there are `limit` bytes.
-fn read_up_to<S: Source>(
-    alloc: Global,
-    source: &mut S,
-    buffer: &mut [u8],
-    limit: usize,
-) -> Result<Vec<u8>, ReadFault>
-    requires { 0 < length buffer.old }
-    ensures counts { S.faults source.old ≤ S.faults source.new }
-    ensures took { IfOk result (λ bytes. Takes (S.left source.old) (S.left source.new) bytes.items) }
-    ensures end { IfOk result (λ bytes. vec_len bytes < limit → IsAtEnd (S.left source.new)) }
-    ensures failed { IsErrOf result ReadFault.Failed
-        → HasRisen (S.faults source.old) (S.faults source.new) }
-{
-    let mut bytes = Vec::new(alloc);
-    while bytes.len() < limit {
-        match source.read(buffer) {
-            Ok(0) => return Ok(bytes),
-            Ok(count) => {
-                if bytes.extend_from_slice(&buffer[..count]).is_err() {
-                    return Err(ReadFault::OutOfMemory);
-                }
-            }
-            Err(Failed) => return Err(ReadFault::Failed),
-        }
-    }
-    Ok(bytes)
-}
-
-/// Writes a whole text. After a fault the sink has taken the front of it.
-#[tactic(auto, using(crate::proofs::Writes::appended))]
-fn write_all<K: Sink>(sink: &mut K, text: &[u8]) -> Result<(), SinkFault>
-    ensures counts { K.faults sink.old ≤ K.faults sink.new }
-    ensures took { OnOk result (Appends (K.taken sink.old) (K.taken sink.new) text.now) }
-    ensures begun { (count : ℕ) × (count ≤ length text.now)
-        × Appends (K.taken sink.old) (K.taken sink.new) (take count text.now) }
-    ensures failed { IsErrOf result SinkFault.Failed
-        → HasRisen (K.faults sink.old) (K.faults sink.new) }
-{
-    let mut written = 0;
-    while written < text.len() {
-        written += sink.write(&text[written..])?;
-    }
-    Ok(())
-}
 
 /// Reads `abc` with a buffer of this length, at most `piece` bytes a call, and compares what each call
 /// gives, where `!` is a fault.
@@ -148,14 +93,14 @@ fn writes_up_to_a_fault(rt: HostRuntime) -> Result<(), Fail> {
 fn reads_up_to_a_fault(rt: HostRuntime) -> Result<(), Fail> {
     let alloc = rt.alloc();
     let mut source = MemorySource::new(b"abc".to_vec(alloc)?, 2, [2].to_vec(alloc)?);
-    let read = read_up_to(alloc, &mut source, &mut [0; 4], 100);
-    assert_eq!(rt; read.err(), Some(ReadFault::Failed));
+    let read = read_up_to(alloc, &mut source, 100);
+    assert_eq!(rt; read.err(), Some(ReadStop::Failed));
     Ok(())
 }
 
 /// Reads a source to its end, and compares what it gave with `abc`.
-fn gives_abc<S: Source>(rt: &impl Abort, alloc: Global, source: &mut S) -> Result<(), ReadFault> {
-    let bytes = read_up_to(alloc, source, &mut [0; 2], 100)?;
+fn gives_abc<S: Source>(rt: &impl Abort, alloc: Global, source: &mut S) -> Result<(), ReadStop> {
+    let bytes = read_up_to(alloc, source, 100)?;
     assert_eq!(rt; bytes.as_slice(), b"abc".as_slice());
     Ok(())
 }
