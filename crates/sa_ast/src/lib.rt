@@ -1,8 +1,26 @@
-//! The trees of statements. Today it has the kinds of the statements that look into another session.
+//! The trees of statements, as the parser makes them and the printer and the resolver read them.
 //!
-//! The parser makes trees, and the session machine and the workers name these kinds.
+//! Contracts see a tree as plain data without pointers, and a list of trees as a list.
 #![tactic(auto)]
 
+mod create;
+mod expression;
+mod insert;
 mod kind;
+mod name;
+mod select;
+mod statement;
 
+pub use create::{ColumnTree, ColumnTrees, CreateTree, KeyTree, KeyTrees, KindTree};
+pub use expression::{AggregateCall, ExprNode, ExprTree, ExprTrees};
+pub use insert::{InsertTree, TupleTree, TupleTrees};
 pub use kind::{AskKind, KillKind};
+pub use name::{NameTree, NameTrees};
+pub use select::{
+    GroupTree, GroupTrees, ItemNode, ItemTree, ItemTrees, OrderTree, OrderTrees, SelectTree,
+    TableTree, TableTrees,
+};
+pub use statement::Statement;
+
+#[cfg(test)]
+mod tests;

@@ -4,7 +4,7 @@ use crate::counters::Counters;
 use arrayvec::ArrayVec;
 
 /// How far a run has come: what other sessions see of it.
-#[derive(Debug, Drop)]
+#[derive(Debug, Default, Drop)]
 pub struct Report {
     /// The number of the statement in its session, from 1 on.
     pub statement: u32,

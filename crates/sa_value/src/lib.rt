@@ -8,15 +8,19 @@ mod comparison;
 mod memory;
 mod row;
 mod text;
+mod texts;
 mod truth;
 mod value;
+mod values;
 
 pub use comparison::compare;
 pub use memory::OutOfMemory;
 pub use row::{Row, Rows};
 pub use text::Text;
+pub use texts::Texts;
 pub use truth::{CompareOp, Truth};
 pub use value::{Value, ValueRef};
+pub use values::Values;
 
 #[cfg(test)]
 mod tests;

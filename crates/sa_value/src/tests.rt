@@ -103,3 +103,19 @@ fn gives_back_what_it_holds(rt: HostRuntime) -> Result<(), Fail> {
     }
     Ok(())
 }
+
+#[test]
+fn lists_give_back_what_they_hold(rt: HostRuntime) -> Result<(), Fail> {
+    let mut values = Values::new(rt.alloc());
+    values.push(Value::Int(3))?;
+    values.push(Value::Null)?;
+    assert_eq!(rt; values.as_slice().len(), 2);
+    assert_eq!(rt; Values::from_vec(values.into_vec()).as_slice().len(), 2);
+    let mut texts = Texts::new(rt.alloc());
+    texts.push(Text::from_str(rt.alloc(), "a")?)?;
+    texts.push(Text::from_str(rt.alloc(), "total")?)?;
+    assert_eq!(rt; texts.as_slice().len(), 2);
+    let last = Texts::from_vec(texts.into_vec()).into_vec().pop();
+    assert_eq!(rt; last.as_ref().map(|text| text.as_str()), Some("total"));
+    Ok(())
+}

@@ -1,0 +1,10 @@
+use Rattle.std.proofs.Common.{◌<◌, ◌^◌, arith, rules}
+use Rattle.sa_desk.specs.Desk.{contents_of}
+use Rattle.sa_desk.proofs.Capacity.{sound_fits}
+use Rattle.sa_desk.proofs.desk.Desk.len.Goals as goal
+
+pub overflow_cast-result : goal.overflow_cast-result
+overflow_cast-result c =
+    let fits = sound_fits (contents_of c.self.inside) c.self.invariant.sound in
+    let below : c.len.result < 2 ^ 32 = omega (arith, fits, c.len.ensures, c.self.inside.journal.ok.0, c.self.invariant.sound.few) in
+    search rules

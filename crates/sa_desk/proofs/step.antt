@@ -1,0 +1,10 @@
+pub mod Ask
+pub mod Begin
+pub mod Close
+pub mod End
+pub mod Kill
+pub mod Look
+pub mod Point
+pub mod Poll
+pub mod Serve
+pub mod Withdraw

@@ -1,0 +1,10 @@
+pub mod Query
+pub mod ServedAtPoint
+pub mod ServedAtEnd
+pub mod NotExplainable
+pub mod ServedInOrder
+pub mod Spent
+pub mod KilledQuery
+pub mod KilledConnection
+pub mod Withdrawn
+pub mod Waited

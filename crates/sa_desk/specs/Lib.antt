@@ -1,0 +1,15 @@
+pub mod State
+pub mod Comes
+pub mod After
+pub mod Runs
+pub mod Charge
+pub mod Contents
+pub mod New
+pub mod Serving
+pub mod World
+pub mod call
+pub mod law
+pub mod Desk
+pub mod Plain
+pub mod PlainDesks
+pub mod Parts

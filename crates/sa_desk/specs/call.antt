@@ -1,0 +1,10 @@
+pub mod Begin
+pub mod Point
+pub mod LookOwn
+pub mod End
+pub mod Ask
+pub mod Poll
+pub mod Withdraw
+pub mod Kill
+pub mod Look
+pub mod Close

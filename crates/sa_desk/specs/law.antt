@@ -1,0 +1,4 @@
+pub mod On
+pub mod Interrupted
+pub mod Talk
+pub mod Shown

@@ -1,0 +1,4 @@
+pub mod Item
+pub mod Counts
+pub mod Output
+pub mod Progress

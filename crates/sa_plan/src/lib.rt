@@ -1,0 +1,12 @@
+//! The plan of a statement, what preparing a statement gives, and who prepares one.
+//!
+//! The executor runs a plan, the session machine shows it, and the worker asks a `Preparer` for it.
+#![tactic(auto)]
+
+mod plan;
+mod prepared;
+mod preparer;
+
+pub use plan::{Plan, Planned};
+pub use prepared::{Prepared, Work};
+pub use preparer::Preparer;

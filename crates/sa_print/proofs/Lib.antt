@@ -1,0 +1,4 @@
+mod Doubled
+mod Lists
+mod Worked
+mod WorkedStatements

@@ -1,0 +1,7 @@
+use Rattle.std.proofs.Common.{◌≡◌, ◌++◌, codes, take}
+use Rattle.std.specs.Prelude.{flat_map}
+use Rattle.sa_print.specs.Select.{order_text}
+use Rattle.sa_print.proofs.printer.Printer.order.Given as goal
+
+abbrev pub invariant-loop-next : goal.invariant-loop-next
+invariant-loop-next l = l.self ≡ l.initial.self ++ flat_map (λ next. codes ", " ++ order_text next) (take l.next-index l.rest)
