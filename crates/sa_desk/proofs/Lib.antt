@@ -4,6 +4,7 @@ pub mod CallLeftMore
 pub mod Called
 pub mod Capacity
 pub mod Changes
+pub mod Checks
 pub mod Counted
 pub mod Counts
 pub mod Grown

@@ -1,27 +1,55 @@
 //! Whether a call of a desk may be made, looked up while the program runs. Tests alone ask so.
-ghost use Rattle.std.specs.Prelude.{◌≡◌, ℕ, ℤ, ◌+◌, ◌-◌, ◌*◌, ◌/◌, ◌<◌, ◌≤◌, ◌⊎◌, List, length, slice_index, IsTrue, Some, option_map, false};
+ghost use Rattle.std.specs.Prelude.{◌≡◌, ◌≢◌, ℕ, ℤ, ◌+◌, ◌≤◌, ◌⊎◌, true, List, Option, Some, None, IfSome, IsTrue, option_map};
+ghost use Rattle.std.specs.Global.{Global};
 ghost use Rattle.std.specs.Arc.{arc_value};
+ghost use Rattle.std.specs.declared.sync.Arc.{Arc};
 ghost use Rattle.sa_value.specs.Compare.{CanCompare};
+ghost use Rattle.sa_value.specs.declared.text.Text as declared_text;
+ghost use Rattle.sa_value.specs.declared.values.Values as declared_values;
 ghost use Rattle.sa_plan.specs.Plan as plans;
 ghost use Rattle.sa_plan.specs.declared.plan.Plan as declared_plan;
 ghost use Rattle.sa_meaning.specs.Progress.{Progress};
-ghost use Rattle.sa_desk.specs.State.{State, idle, planned, HasNone, Terms, Statement, Execution};
+ghost use Rattle.sa_desk.specs.declared.entry.Entry as declared;
+ghost use Rattle.sa_desk.specs.State.{Terms, Statement, Execution, idle, planned, queue_of, HasNone};
+ghost use Rattle.sa_desk.specs.Comes.{IsQueued, IsServed};
+ghost use Rattle.sa_desk.specs.Runs.{state_of};
 ghost use Rattle.sa_desk.specs.Charge.{charge, cost, cost_to};
 ghost use Rattle.sa_desk.specs.Contents.{IsCaller, IsOwner, HasRoom, state, phase};
-ghost use Rattle.sa_desk.specs.Runs.{state_of};
-ghost use Rattle.sa_desk.specs.declared.entry.Entry as declared;
+ghost use Rattle.sa_desk.specs.Serving.{IsRunOf, begin_turn, is_killed};
+ghost use Rattle.sa_desk.specs.call.Ask.{MayAsk};
 ghost use Rattle.sa_desk.specs.call.Begin.{AreGiven, MayBegin};
 ghost use Rattle.sa_desk.specs.call.Close.{MayClose};
+ghost use Rattle.sa_desk.specs.call.End.{run_of, Fits, IsGivenRun, IsTimely, IsOn, MayEnd};
 ghost use Rattle.sa_desk.specs.call.Kill.{MayKill};
+ghost use Rattle.sa_desk.specs.call.Look.{MayLook};
+ghost use Rattle.sa_desk.specs.call.LookOwn.{IsPlainOn, MayLookOwn};
+ghost use Rattle.sa_desk.specs.call.Point.{MayPoint};
+ghost use Rattle.sa_desk.specs.call.Poll.{MayPoll};
+ghost use Rattle.sa_desk.specs.call.Withdraw.{MayWithdraw};
 
 use crate::desk::Desk;
+use crate::desk::parts::kill_stands;
 use crate::entry::{Entry, Event};
+use crate::outcome::{Finish, Outcome, StepStop};
 use crate::phase::Phase;
+use crate::request::{Reply, Request};
 use crate::stamp::Stamp;
-use sa_ast::KillKind;
+use sa_ast::{AskKind, KillKind};
+use sa_meaning::Running;
 use sa_plan::Plan;
 use sa_value::{Text, Value, Values};
 use std::sync::Arc;
+
+/// A run that tells its plan and its values, so that they can be compared.
+pub trait OfPlan: Running {
+    /// Its plan.
+    fn plan(&self) -> &Plan
+        ensures { result.now ≡ (Self.progress self.now).plan };
+
+    /// The values that it reads.
+    fn values(&self) -> &[Value]
+        ensures { result.now ≡ (Self.progress self.now).values };
+}
 
 /// What the desk's own session may call.
 impl Desk {
@@ -44,11 +72,125 @@ impl Desk {
             && self.has_room(stamp, 1)
     }
 
+    /// Whether the run may publish how far it has come.
+    #[tactic(auto, using(crate::proofs::Checks::charge_served))]
+    pub fn may_point<R: OfPlan>(&self, stamp: Stamp, run: &R) -> bool
+        ensures { IsTrue result → MayPoint self.now stamp (R.progress run.now) }
+    {
+        let steps = run.report().steps;
+        let Some(made) = steps.checked_sub(self.published) else {
+            return false;
+        };
+        if made != u64::from(self.quantum) || run.finished() {
+            return false;
+        }
+        let turns = steps / u64::from(self.quantum);
+        self.is_owner(stamp) && self.is_run(stamp, turns, run) && self.has_room(stamp, 0)
+    }
+
+    /// Whether the caller may look for a kill of its statement, which has no plan.
+    pub fn may_look_own(&self, stamp: Stamp) -> bool
+        ensures { IsTrue result → MayLookOwn self.now stamp }
+    {
+        self.is_owner(stamp) && self.is_plain() && self.has_room(stamp, 0)
+    }
+
+    /// Whether the statement may end so.
+    #[tactic(auto, using(crate::proofs::Checks::charge_end))]
+    pub fn may_end<R: OfPlan>(&self, stamp: Stamp, statement: u32, finish: &Finish<R>) -> bool
+        ensures { IsTrue result → MayEnd R.progress self.now stamp statement finish.now }
+    {
+        self.is_owner(stamp)
+            && self.is_on(statement)
+            && self.is_given(stamp, finish)
+            && self.fits(finish)
+            && self.has_room(stamp, 1)
+    }
+
     /// Whether the session may end.
     pub fn may_close(&self, stamp: Stamp) -> bool
         ensures { IsTrue result → MayClose self.now stamp }
     {
         self.is_owner(stamp) && self.is_idle() && self.has_room(stamp, 1)
+    }
+
+    /// Whether the end is given the run of the statement that is on, in time, or none where that has no plan.
+    fn is_given<R: OfPlan>(&self, stamp: Stamp, finish: &Finish<R>) -> bool
+        ensures run { IsTrue result → IsGivenRun (phase self.now) (run_of R.progress finish.now) }
+        ensures timely { IsTrue result → IfSome (run_of R.progress finish.now) (IsTimely self.now stamp) }
+    {
+        match finish {
+            Finish::Plain(_) => self.is_plain(),
+            Finish::Rows { run, .. } | Finish::Analyzed { run, .. } | Finish::Broken { run, .. } => {
+                self.is_last(stamp, run)
+            }
+        }
+    }
+
+    /// Whether the run is of the statement that is on, and its turn follows those that were published.
+    fn is_last<R: OfPlan>(&self, stamp: Stamp, run: &R) -> bool
+        ensures run { IsTrue result → IsRunOf (phase self.now) (R.progress run.now) }
+        ensures timely { IsTrue result → IsTimely self.now stamp (R.progress run.now) }
+    {
+        let Some(made) = run.report().steps.checked_sub(self.published) else {
+            return false;
+        };
+        let turns = self.published / u64::from(self.quantum);
+        made <= u64::from(self.quantum) && turns < u64::MAX && self.is_run(stamp, turns + 1, run)
+    }
+
+    /// Whether the end fits: its run is finished, and Interrupted is only for what is killed.
+    fn fits<R: OfPlan>(&self, finish: &Finish<R>) -> bool
+        ensures { IsTrue result → Fits R.progress (is_killed (phase self.now)) finish.now }
+    {
+        match finish {
+            Finish::Plain(outcome) => {
+                !matches!(outcome, Outcome::Interrupted) || kill_stands(self.phase)
+            }
+            Finish::Rows { run, .. } | Finish::Analyzed { run, .. } => run.finished(),
+            Finish::Broken { fault, .. } => *fault != StepStop::Killed || kill_stands(self.phase),
+        }
+    }
+
+    /// Whether the run is of the statement that is on, which began so many turns ago.
+    fn is_run<R: OfPlan>(&self, stamp: Stamp, turns: u64, run: &R) -> bool
+        ensures run { IsTrue result → IsRunOf (phase self.now) (R.progress run.now) }
+        ensures turn { IsTrue result → stamp.turn ≡ begin_turn (phase self.now) + turns }
+    {
+        let Some(begun) = stamp.turn.checked_sub(turns) else {
+            return false;
+        };
+        self.is_planned(run.report().statement, begun, run.plan(), run.values())
+    }
+
+    /// Whether this statement is on and has begun in this turn, with the plan and the values.
+    fn is_planned(&self, statement: u32, turn: u64, plan: &Plan, values: &[Value]) -> bool
+        ensures run { IsTrue result → (run : Progress) → run.statement ≡ statement → run.plan ≡ plan.now → run.values ≡ values.now → IsRunOf (phase self.now) run }
+        ensures turn { IsTrue result → begin_turn (phase self.now) ≡ turn }
+    {
+        match self.phase {
+            Phase::Planned(on) => {
+                on.statement == statement && has_begun(&self.journal, turn, plan, values)
+            }
+            Phase::Idle | Phase::Plain(_) | Phase::Closed => false,
+        }
+    }
+
+    /// Whether this statement is on.
+    fn is_on(&self, statement: u32) -> bool
+        ensures { IsTrue result → IsOn statement (phase self.now) }
+    {
+        match self.phase {
+            Phase::Plain(on) | Phase::Planned(on) => on.statement == statement,
+            Phase::Idle | Phase::Closed => false,
+        }
+    }
+
+    /// Whether a statement without a plan is on.
+    fn is_plain(&self) -> bool
+        ensures { IsTrue result → IsPlainOn (phase self.now) }
+    {
+        matches!(self.phase, Phase::Plain(_))
     }
 
     /// Whether the caller is the desk's own session.
@@ -75,6 +217,157 @@ impl Desk {
         }
         let share = self.shares[(stamp.actor - 1) as usize];
         stays_within(&self.journal, stamp.actor, share, cost)
+    }
+}
+
+/// What any session may call.
+impl Desk {
+    /// Whether the caller may ask.
+    pub fn may_ask(&self, stamp: Stamp, statement: u32, kind: AskKind, budget: u64) -> bool
+        ensures { IsTrue result → MayAsk self.now stamp statement kind budget }
+    {
+        self.asks_nothing(stamp.actor) && budget == self.turns && self.has_room(stamp, 2)
+    }
+
+    /// Whether the caller may look for its answer.
+    pub fn may_poll(&self, stamp: Stamp, statement: u32) -> bool
+        ensures { IsTrue result → MayPoll self.now stamp statement }
+    {
+        self.is_asked(stamp.actor, statement) && self.has_room(stamp, 1)
+    }
+
+    /// Whether the caller may take its request back.
+    pub fn may_withdraw(&self, stamp: Stamp, statement: u32) -> bool
+        ensures { IsTrue result → MayWithdraw self.now stamp statement }
+    {
+        self.is_asked(stamp.actor, statement) && self.has_room(stamp, 1)
+    }
+
+    /// Whether the caller may kill what runs here.
+    pub fn may_kill(&self, stamp: Stamp, statement: u32, kind: KillKind) -> bool
+        ensures { IsTrue result → MayKill self.now stamp statement kind }
+    {
+        self.has_room(stamp, 1)
+    }
+
+    /// Whether the caller may wait here.
+    pub fn may_look(&self, stamp: Stamp, statement: u32, at: u64, budget: u64) -> bool
+        ensures { IsTrue result → MayLook self.now stamp statement at budget }
+    {
+        budget == self.turns && self.has_room(stamp, 1)
+    }
+
+    /// Whether the session has no request here, neither waiting nor answered.
+    fn asks_nothing(&self, session: u32) -> bool
+        ensures { IsTrue result → HasNone session (phase self.now) (state self.now).replies }
+    {
+        let requests = self.queue.as_slice();
+        let replies = self.replies.as_slice();
+        requests.iter().all(|request| request.asker != session)
+            && replies.iter().all(|reply| reply.asker != session)
+    }
+
+    /// Whether the session's request of this statement is here, waiting or answered.
+    fn is_asked(&self, session: u32, statement: u32) -> bool
+        ensures { IsTrue result → IsQueued session statement (queue_of (phase self.now)) ⊎ IsServed session statement (state self.now).replies }
+    {
+        is_queued(self.queue.as_slice(), session, statement)
+            || is_answered(self.replies.as_slice(), session, statement)
+    }
+}
+
+/// Whether the session's request of this statement waits.
+fn is_queued(queue: &[Request], session: u32, statement: u32) -> bool
+    ensures { IsTrue result → IsQueued session statement queue.now }
+{
+    for request in queue {
+        if request.asker == session && request.request == statement {
+            return true;
+        }
+    }
+    false
+}
+
+/// Whether the session's request of this statement was served, and its answer not yet taken.
+fn is_answered(replies: &[Reply], session: u32, statement: u32) -> bool
+    ensures { IsTrue result → IsServed session statement replies.now }
+{
+    for reply in replies {
+        if reply.asker == session && reply.request == statement {
+            return true;
+        }
+    }
+    false
+}
+
+/// Whether the statement whose Begin is the last one began in this turn, with the plan and the values.
+fn has_begun(journal: &[Entry], turn: u64, plan: &Plan, values: &[Value]) -> bool
+    ensures { IsTrue result → (terms : Terms) (statement : Statement) (execution : Execution) → (state_of terms journal.now).phase ≡ planned statement execution → (statement.turn ≡ turn) × (execution.plan ≡ plan.now) × (execution.values ≡ values.now) }
+{
+    let mut begun = false;
+    for entry in journal {
+        begun = begins(entry, turn, plan, values).unwrap_or(begun);
+    }
+    begun
+}
+
+/// Whether the entry, if it is a Begin, is of this turn and has the plan and the values.
+fn begins(entry: &Entry, turn: u64, plan: &Plan, values: &[Value]) -> Option<bool>
+    ensures other { result ≡ None → (number version : ℕ) (text : declared_text.Text) (its_plan : Option (Arc declared_plan.Plan Global)) (its_values : Option (Arc declared_values.Values Global)) →
+        entry.now.event ≢ Event.Begin number text version its_plan its_values }
+    ensures begun { result ≡ Some true → (number : ℕ) × (version : ℕ) × (text : declared_text.Text) × (its_plan : Option (Arc declared_plan.Plan Global)) × (its_values : Option (Arc declared_values.Values Global)) ×
+        (entry.now.event ≡ Event.Begin number text version its_plan its_values) × (entry.now.turn ≡ turn) × (option_map arc_value its_plan ≡ Some plan.now) × (option_map arc_value its_values ≡ Some values.now) }
+{
+    match &entry.event {
+        Event::Begin {
+            plan: Some(its_plan),
+            values: Some(its_values),
+            ..
+        } => Some(
+            entry.turn == turn
+                && same_plan(its_plan, plan)
+                && same_values(its_values.as_slice(), values),
+        ),
+        Event::Begin { .. } => Some(false),
+        _ => None,
+    }
+}
+
+/// Whether the plans are equal.
+fn same_plan(a: &Plan, b: &Plan) -> bool
+    ensures { IsTrue result → a.now ≡ b.now }
+{
+    a.table.as_str() == b.table.as_str()
+        && a.column.as_str() == b.column.as_str()
+        && a.op == b.op
+        && a.literal == b.literal
+        && a.rows == b.rows
+        && a.cost == b.cost
+}
+
+/// Whether the values are equal numbers.
+fn same_values(a: &[Value], b: &[Value]) -> bool
+    ensures { IsTrue result → a.now ≡ b.now }
+{
+    if a.len() != b.len() {
+        return false;
+    }
+    for place in 0..a.len() {
+        if !same_value(&a[place], &b[place]) {
+            return false;
+        }
+    }
+    true
+}
+
+/// Whether the values are equal numbers, or both are NULL.
+fn same_value(a: &Value, b: &Value) -> bool
+    ensures { IsTrue result → a.now ≡ b.now }
+{
+    match (a, b) {
+        (Value::Null, Value::Null) => true,
+        (Value::Int(a), Value::Int(b)) => a == b,
+        _ => false,
     }
 }
 
