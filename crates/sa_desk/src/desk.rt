@@ -5,7 +5,7 @@ ghost use Rattle.sa_desk.specs.New.{MayMake, new_desk};
 mod asker;
 mod finishing;
 #[cfg(test)]
-mod may;
+pub mod may;
 mod owner;
 mod parts;
 mod seats;

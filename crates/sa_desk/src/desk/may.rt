@@ -121,9 +121,8 @@ impl Desk {
     {
         match finish {
             Finish::Plain(_) => self.is_plain(),
-            Finish::Rows { run, .. } | Finish::Analyzed { run, .. } | Finish::Broken { run, .. } => {
-                self.is_last(stamp, run)
-            }
+            Finish::Rows { run, .. } | Finish::Analyzed { run, .. } | Finish::Broken { run, .. } =>
+                { self.is_last(stamp, run) }
         }
     }
 
