@@ -8,6 +8,7 @@ pub mod Checks
 pub mod Counted
 pub mod Counts
 pub mod Grown
+pub mod Items
 pub mod Keeps
 pub mod Lists
 pub mod Numbered
