@@ -1,4 +1,5 @@
 //! Scripts that are driven through the desks call by call, as workers would.
 
+mod desks;
 mod query;
 mod run;
