@@ -3,3 +3,4 @@
 mod desks;
 mod query;
 mod run;
+mod session;
