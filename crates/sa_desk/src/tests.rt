@@ -3,4 +3,5 @@
 mod desks;
 mod query;
 mod run;
+mod script;
 mod session;
