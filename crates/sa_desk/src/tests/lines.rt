@@ -4,7 +4,7 @@ use crate::entry::{Entry, Event};
 use crate::journal::Journals;
 use crate::outcome::Outcome;
 use sa_count::Report;
-use sa_value::{Row, Rows, ValueRef};
+use sa_value::{Row, Rows, Texts, ValueRef};
 use std::alloc::{AllocError, Global};
 use std::test::Fail;
 
@@ -80,7 +80,7 @@ fn event_text(alloc: Global, event: &Event) -> Result<String, AllocError> {
 /// How a statement ended.
 fn outcome_text(alloc: Global, outcome: &Outcome) -> Result<String, AllocError> {
     match outcome {
-        Outcome::Rows { rows, .. } => rows_text(alloc, rows),
+        Outcome::Rows { names, rows } => rows_text(alloc, names, rows),
         Outcome::Shown {
             kind,
             desk,
@@ -106,9 +106,14 @@ fn report_text(alloc: Global, report: &Report) -> Result<String, AllocError> {
     Ok(text)
 }
 
-/// The rows that a query gave.
-fn rows_text(alloc: Global, rows: &Rows) -> Result<String, AllocError> {
+/// The columns and the rows that a query gave.
+fn rows_text(alloc: Global, names: &Texts, rows: &Rows) -> Result<String, AllocError> {
     let mut text = String::from_str(alloc, "rows")?;
+    for name in names.as_slice() {
+        text.push_str(" ")?;
+        text.push_str(name.as_str())?;
+    }
+    text.push_str(":")?;
     for row in rows.as_slice() {
         push_row(alloc, row, &mut text)?;
     }
