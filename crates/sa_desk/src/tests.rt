@@ -1,5 +1,6 @@
 //! Scripts that are driven through the desks call by call, as workers would.
 
+mod crowd;
 mod desks;
 mod foreign;
 mod lines;
@@ -116,4 +117,9 @@ fn a_show_that_is_polled_once(rt: HostRuntime) -> Result<(), Fail> {
     foreign::show_once_after_the_begin(rt.alloc())?;
     foreign::show_once_after_two_steps(rt.alloc())?;
     foreign::show_once_after_four_steps(rt.alloc())
+}
+
+#[test]
+fn fifteen_sessions_ask(rt: HostRuntime) -> Result<(), Fail> {
+    crowd::fifteen_ask(rt.alloc())
 }

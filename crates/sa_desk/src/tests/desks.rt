@@ -35,6 +35,7 @@ pub enum MayNot {
 
 /// What a desk's own session calls.
 impl CheckedDesks {
+    /// These desks.
     pub fn new(desks: PlainDesks) -> CheckedDesks {
         CheckedDesks { desks }
     }
@@ -54,11 +55,13 @@ impl CheckedDesks {
         {
             return Err(MayNot::Begin);
         }
-        Ok(self
-            .desks
-            .begin(me.actor, me, statement, text, 0, plan, values))
+        Ok(
+            self.desks
+                .begin(me.actor, me, statement, text, 0, plan, values),
+        )
     }
 
+    /// Publishes how far the run has come, and serves who asked.
     pub fn point(&mut self, me: Caller, run: &mut Scan) -> Result<Seen, MayNot> {
         if !self.desks.may_point(me.actor, me, run) {
             return Err(MayNot::Point);
@@ -66,6 +69,7 @@ impl CheckedDesks {
         Ok(self.desks.point(me.actor, me, run))
     }
 
+    /// Looks whether a kill stands for the caller's own statement.
     pub fn look_own(&mut self, me: Caller) -> Result<Seen, MayNot> {
         if !self.desks.may_look_own(me.actor, me) {
             return Err(MayNot::LookOwn);
@@ -73,6 +77,7 @@ impl CheckedDesks {
         Ok(self.desks.look_own(me.actor, me))
     }
 
+    /// Ends the statement.
     pub fn end(
         &mut self,
         me: Caller,
@@ -85,6 +90,7 @@ impl CheckedDesks {
         Ok(self.desks.end(me.actor, me, statement, finish))
     }
 
+    /// Ends the session.
     pub fn close(&mut self, me: Caller) -> Result<(), MayNot> {
         if !self.desks.may_close(me.actor, me) {
             return Err(MayNot::Close);
@@ -102,6 +108,7 @@ impl CheckedDesks {
 
 /// What any session calls.
 impl CheckedDesks {
+    /// Asks for the plan or the counters of what runs there.
     pub fn ask(
         &mut self,
         desk: u32,
@@ -116,6 +123,7 @@ impl CheckedDesks {
         Ok(self.desks.ask(desk, me, statement, kind, budget))
     }
 
+    /// Looks whether the request was served.
     pub fn poll(&mut self, desk: u32, me: Caller, statement: u32) -> Result<Polled, MayNot> {
         if !self.desks.may_poll(desk, me, statement) {
             return Err(MayNot::Poll);
@@ -123,6 +131,7 @@ impl CheckedDesks {
         Ok(self.desks.poll(desk, me, statement))
     }
 
+    /// Takes the request back.
     pub fn withdraw(&mut self, desk: u32, me: Caller, statement: u32) -> Result<Withdrawn, MayNot> {
         if !self.desks.may_withdraw(desk, me, statement) {
             return Err(MayNot::Withdraw);
@@ -130,6 +139,7 @@ impl CheckedDesks {
         Ok(self.desks.withdraw(desk, me, statement))
     }
 
+    /// Kills what runs there.
     pub fn kill(
         &mut self,
         desk: u32,
@@ -143,6 +153,7 @@ impl CheckedDesks {
         Ok(self.desks.kill(desk, me, statement, kind))
     }
 
+    /// Waits until so many steps are published there.
     pub fn look(
         &mut self,
         desk: u32,

@@ -16,18 +16,23 @@ use std::test::Fail;
 #[derive(Clone, Copy, Debug)]
 pub struct Script<'a> {
     pub sessions: &'a [&'a [Work]],
+    /// How many steps a turn makes at most.
     pub quantum: u32,
+    /// How many turns a request or a wait lasts.
     pub turns: u64,
     /// Which sessions take the first turns. After them come rounds of all.
     pub schedule: &'a [u32],
 }
 
-/// Plays the script, and gives the journals.
+/// Plays the script, and gives the journals. An error where a call may not be made, or a session isn't
+/// done after 64 rounds.
 pub fn play(alloc: Global, script: Script<'_>) -> Result<Journals, Fail> {
     let mut desks = CheckedDesks::new(PlainDesks::new(alloc, new_desks(alloc, script)?)?);
     let mut sessions = new_sessions(alloc, script)?;
     for number in script.schedule {
-        let place = number.checked_sub(1).ok_or("a session is numbered from 1 on")?;
+        let place = number
+            .checked_sub(1)
+            .ok_or("a session is numbered from 1 on")?;
         let session = sessions.get_mut(place as usize).ok_or("no such session")?;
         take_turn(alloc, &mut desks, session)?;
     }
@@ -101,7 +106,9 @@ fn share_of(statements: &[Work], own: bool, desk: u32) -> u32
     let mut share: u32 = if own { 1 } else { 0 };
     for work in statements {
         let begin_and_end = if own { 2 } else { 0 };
-        share = share.saturating_add(begin_and_end).saturating_add(need(*work, desk));
+        share = share
+            .saturating_add(begin_and_end)
+            .saturating_add(need(*work, desk));
     }
     share.min(65536)
 }

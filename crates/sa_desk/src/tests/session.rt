@@ -70,7 +70,9 @@ impl Work {
 pub struct Terms {
     /// How many sessions there are.
     pub sessions: u32,
+    /// How many steps a turn makes at most.
     pub quantum: u32,
+    /// How many turns a request or a wait lasts.
     pub turns: u64,
 }
 
@@ -107,6 +109,7 @@ enum Next {
 }
 
 impl Session {
+    /// The session with this number and these statements, before its first turn.
     pub fn new(number: u32, terms: Terms, statements: Vec<Work>) -> Session {
         Session {
             number,
@@ -176,7 +179,10 @@ impl Session {
 
     /// What the turn after a statement's begin does.
     fn first_step(&self, alloc: Global, work: Work) -> Result<Next, OutOfMemory> {
-        if work.aim().is_some_and(|id| id < 1 || id > self.terms.sessions) {
+        if work
+            .aim()
+            .is_some_and(|id| id < 1 || id > self.terms.sessions)
+        {
             return Ok(Next::End(Outcome::NoSuchThread));
         }
         Ok(match work {

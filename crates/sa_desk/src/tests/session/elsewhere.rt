@@ -41,6 +41,7 @@ impl Session {
         }
     }
 
+    /// Asks, and polls or ends then.
     fn ask(&mut self, desks: &mut CheckedDesks, kind: AskKind, desk: u32) -> Result<Next, Fail> {
         let asked = desks.ask(desk, self.me(), self.begun, kind, self.terms.turns)?;
         Ok(match asked {
@@ -50,6 +51,7 @@ impl Session {
         })
     }
 
+    /// Looks for the answer, and ends once it is there or the request is spent.
     fn poll(&mut self, desks: &mut CheckedDesks, kind: AskKind, desk: u32) -> Result<Next, Fail> {
         Ok(match desks.poll(desk, self.me(), self.begun)? {
             Polled::Taken { report, begin } => Next::End(Outcome::Shown {
@@ -63,11 +65,13 @@ impl Session {
         })
     }
 
+    /// Takes the request back. The statement was killed.
     fn withdraw(&mut self, desks: &mut CheckedDesks, desk: u32) -> Result<Next, Fail> {
         let _ = desks.withdraw(desk, self.me(), self.begun)?;
         Ok(Next::End(Outcome::Interrupted))
     }
 
+    /// Looks how far the other session has come, and ends once that is enough or the wait is spent.
     fn look(&mut self, desks: &mut CheckedDesks, desk: u32, at: u64) -> Result<Next, Fail> {
         let looked = desks.look(desk, self.me(), self.begun, at, self.terms.turns)?;
         Ok(match looked {
@@ -78,6 +82,7 @@ impl Session {
         })
     }
 
+    /// Sends the kill.
     fn kill(&mut self, desks: &mut CheckedDesks, kind: KillKind, desk: u32) -> Result<Next, Fail> {
         let killed = desks.kill(desk, self.me(), self.begun, kind)?;
         Ok(match killed {
