@@ -45,7 +45,7 @@ impl PlainDesks {
         self.are_there(desk, me)
             && self
                 .desk(desk)
-                .may_begin(self.stamp(me), statement, text, version, plan, values)
+                .may_begin(stamp(self, me), statement, text, version, plan, values)
     }
 
     /// Whether the run may publish how far it has come.
@@ -53,7 +53,7 @@ impl PlainDesks {
         ensures allowed { IsTrue result → are_there self.now desk me.actor ≡ true }
         ensures point { IsTrue result → let world = world_of self.now in MayPoint (world.contents desk) (next_stamp world me) (R.progress run.now) }
     {
-        self.are_there(desk, me) && self.desk(desk).may_point(self.stamp(me), run)
+        self.are_there(desk, me) && self.desk(desk).may_point(stamp(self, me), run)
     }
 
     /// Whether the caller may look for a kill of its statement, which has no plan.
@@ -61,7 +61,7 @@ impl PlainDesks {
         ensures allowed { IsTrue result → are_there self.now desk me.actor ≡ true }
         ensures look_own { IsTrue result → let world = world_of self.now in MayLookOwn (world.contents desk) (next_stamp world me) }
     {
-        self.are_there(desk, me) && self.desk(desk).may_look_own(self.stamp(me))
+        self.are_there(desk, me) && self.desk(desk).may_look_own(stamp(self, me))
     }
 
     /// Whether the statement may end so.
@@ -75,7 +75,7 @@ impl PlainDesks {
         ensures allowed { IsTrue result → are_there self.now desk me.actor ≡ true }
         ensures end { IsTrue result → let world = world_of self.now in MayEnd R.progress (world.contents desk) (next_stamp world me) statement finish.now }
     {
-        self.are_there(desk, me) && self.desk(desk).may_end(self.stamp(me), statement, finish)
+        self.are_there(desk, me) && self.desk(desk).may_end(stamp(self, me), statement, finish)
     }
 
     /// Whether the session may end.
@@ -83,7 +83,7 @@ impl PlainDesks {
         ensures allowed { IsTrue result → are_there self.now desk me.actor ≡ true }
         ensures close { IsTrue result → let world = world_of self.now in MayClose (world.contents desk) (next_stamp world me) }
     {
-        self.are_there(desk, me) && self.desk(desk).may_close(self.stamp(me))
+        self.are_there(desk, me) && self.desk(desk).may_close(stamp(self, me))
     }
 }
 
@@ -97,7 +97,7 @@ impl PlainDesks {
         self.are_there(desk, me)
             && self
                 .desk(desk)
-                .may_ask(self.stamp(me), statement, kind, budget)
+                .may_ask(stamp(self, me), statement, kind, budget)
     }
 
     /// Whether the caller may look for its answer.
@@ -105,7 +105,7 @@ impl PlainDesks {
         ensures allowed { IsTrue result → are_there self.now desk me.actor ≡ true }
         ensures poll { IsTrue result → let world = world_of self.now in MayPoll (world.contents desk) (next_stamp world me) statement }
     {
-        self.are_there(desk, me) && self.desk(desk).may_poll(self.stamp(me), statement)
+        self.are_there(desk, me) && self.desk(desk).may_poll(stamp(self, me), statement)
     }
 
     /// Whether the caller may take its request back.
@@ -113,7 +113,7 @@ impl PlainDesks {
         ensures allowed { IsTrue result → are_there self.now desk me.actor ≡ true }
         ensures withdraw { IsTrue result → let world = world_of self.now in MayWithdraw (world.contents desk) (next_stamp world me) statement }
     {
-        self.are_there(desk, me) && self.desk(desk).may_withdraw(self.stamp(me), statement)
+        self.are_there(desk, me) && self.desk(desk).may_withdraw(stamp(self, me), statement)
     }
 
     /// Whether the caller may kill what runs there.
@@ -121,7 +121,7 @@ impl PlainDesks {
         ensures allowed { IsTrue result → are_there self.now desk me.actor ≡ true }
         ensures kill { IsTrue result → let world = world_of self.now in MayKill (world.contents desk) (next_stamp world me) statement kind }
     {
-        self.are_there(desk, me) && self.desk(desk).may_kill(self.stamp(me), statement, kind)
+        self.are_there(desk, me) && self.desk(desk).may_kill(stamp(self, me), statement, kind)
     }
 
     /// Whether the caller may wait there.
@@ -132,7 +132,7 @@ impl PlainDesks {
         self.are_there(desk, me)
             && self
                 .desk(desk)
-                .may_look(self.stamp(me), statement, at, budget)
+                .may_look(stamp(self, me), statement, at, budget)
     }
 
     /// Whether the desk and the caller's session are both there.
@@ -156,12 +156,12 @@ impl PlainDesks {
     {
         &self.desks[place_of(number)]
     }
+}
 
-    /// The stamp of the caller's next entry.
-    fn stamp(&self, me: Caller) -> Stamp
-        requires { is_there self.now me.actor ≡ true }
-        ensures { result ≡ next_stamp (world_of self.now) me }
-    {
-        next_stamp(&self.made, me)
-    }
+/// The stamp of the caller's next entry.
+fn stamp(desks: &PlainDesks, me: Caller) -> Stamp
+    requires { is_there desks.now me.actor ≡ true }
+    ensures { result ≡ next_stamp (world_of desks.now) me }
+{
+    next_stamp(&desks.made, me)
 }
