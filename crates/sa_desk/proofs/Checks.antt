@@ -1,5 +1,5 @@
 -- What a desk's fields and its last Begin tell of the statement that is on.
-use Rattle.std.proofs.Common.{◌≡◌, ◌≢◌, ℕ, Global, ◌+◌, ◌≤◌, ◌==◌, Bool, true, false, List, [], ◌∷◌, ◌++◌, Option, Some, None, option_map, refl, sym, subst, ap, ◌∙◌, arith, inl, inr}
+use Rattle.std.proofs.Common.{◌≡◌, ◌≢◌, ℕ, Global, ◌≤◌, ◌==◌, Bool, false, List, [], ◌∷◌, Option, Some, None, option_map, refl, sym, subst, arith, inl, inr}
 use Rattle.std.specs.Prelude.{⊤}
 use Rattle.std.proofs.lemmas.Grind.{common_steps}
 use Rattle.std.proofs.lemmas.Bool.{cases_Bool}
@@ -13,14 +13,12 @@ use Rattle.sa_desk.specs.declared.entry.Entry.{Entry}
 use Rattle.sa_desk.specs.declared.entry.Event.{Event}
 use Rattle.sa_desk.specs.declared.entry.Event.TheVariants.{Begin, Queued, Refused, Served, Taken, Spent, Withdrawn, KillSent, Waited, WaitSpent, End, Gone, Close}
 use Rattle.sa_desk.specs.declared.request.Request.{Request}
-use Rattle.sa_desk.specs.State.{Terms, Statement, Execution, Phase, idle, plain, planned, serving, closed, State}
+use Rattle.sa_desk.specs.State.{Terms, Statement, Execution, Phase, planned, serving, State, queue_of}
 use Rattle.sa_desk.specs.After.{after_event, after, begun, served}
-use Rattle.sa_desk.specs.Runs.{state_of}
 use Rattle.sa_count.specs.declared.report.Report.{Report}
 use Rattle.sa_meaning.specs.Progress.{Progress}
 use Rattle.sa_desk.specs.declared.outcome.Outcome.{Outcome}
 use Rattle.sa_desk.specs.declared.stamp.Stamp.{Stamp}
-use Rattle.sa_desk.specs.State.{queue_of}
 use Rattle.sa_desk.specs.Charge.{charge}
 use Rattle.sa_desk.specs.Contents.{Contents, phase, later}
 use Rattle.sa_desk.specs.Serving.{report_of, served_with}

@@ -1,4 +1,4 @@
-use Rattle.std.proofs.Common.{◌≡◌, ℕ, ◌*◌, ◌≤◌, ◌^◌, true, refl, sym, subst, ap, ◌∙◌, arith}
+use Rattle.std.proofs.Common.{◌≡◌, ◌*◌, ◌≤◌, ◌^◌, true, refl, sym, subst, ap, ◌∙◌, arith}
 use Rattle.sa_desk.specs.Plain.{are_there, IsPlain, made_of, stamp_at}
 use Rattle.sa_desk.specs.PlainDesks.{plain_of}
 use Rattle.sa_desk.proofs.PlainCall.{are_there-is, made_fits, next_stamp-counted}

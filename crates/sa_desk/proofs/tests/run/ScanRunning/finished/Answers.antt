@@ -1,7 +1,6 @@
-use Rattle.std.proofs.Common.{◌≡◌, ◌↔◌, ℕ, IsTrue, nat_eq, length, ap, sym, subst}
+use Rattle.std.proofs.Common.{◌≡◌, ◌↔◌, ℕ, IsTrue, nat_eq, length, ap, sym, subst, arith}
 use Rattle.std.proofs.lemmas.Grind.{common_steps}
-use Rattle.std.proofs.Common.{arith}
-use Rattle.sa_meaning.specs.Progress.{Progress, IsFinished}
+use Rattle.sa_meaning.specs.Progress.{Progress}
 use Rattle.sa_meaning.specs.Item.{items}
 use Rattle.sa_desk.proofs.Items.{six_items}
 use Rattle.sa_desk.proofs.tests.run.ScanRunning.finished.Goals as goal

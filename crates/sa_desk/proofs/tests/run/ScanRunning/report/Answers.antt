@@ -1,4 +1,4 @@
-use Rattle.std.proofs.Common.{◌≤◌, subst, length, arith}
+use Rattle.std.proofs.Common.{◌≤◌, subst, length}
 use Rattle.sa_meaning.specs.Progress.{Progress}
 use Rattle.sa_meaning.specs.Item.{items}
 use Rattle.sa_desk.proofs.Items.{six_items}
