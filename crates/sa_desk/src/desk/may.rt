@@ -1,19 +1,15 @@
 //! Whether a call of a desk may be made, looked up while the program runs. Tests alone ask so.
-ghost use Rattle.std.specs.Prelude.{◌≡◌, ◌≢◌, ℕ, ℤ, ◌+◌, ◌≤◌, ◌⊎◌, true, List, Option, Some, None, IfSome, IsTrue, option_map};
-ghost use Rattle.std.specs.Global.{Global};
+ghost use Rattle.std.specs.Prelude.{◌≡◌, ℤ, ◌+◌, ◌≤◌, ◌⊎◌, List, IfSome, IsTrue, option_map};
 ghost use Rattle.std.specs.Arc.{arc_value};
-ghost use Rattle.std.specs.declared.sync.Arc.{Arc};
 ghost use Rattle.sa_value.specs.Compare.{CanCompare};
-ghost use Rattle.sa_value.specs.declared.text.Text as declared_text;
-ghost use Rattle.sa_value.specs.declared.values.Values as declared_values;
 ghost use Rattle.sa_plan.specs.Plan as plans;
 ghost use Rattle.sa_plan.specs.declared.plan.Plan as declared_plan;
 ghost use Rattle.sa_meaning.specs.Progress.{Progress};
 ghost use Rattle.sa_desk.specs.declared.entry.Entry as declared;
-ghost use Rattle.sa_desk.specs.State.{Terms, Statement, Execution, idle, planned, queue_of, HasNone};
+ghost use Rattle.sa_desk.specs.declared.entry.Event.TheVariants.{Begin};
+ghost use Rattle.sa_desk.specs.State.{idle, queue_of, HasNone};
 ghost use Rattle.sa_desk.specs.Comes.{IsQueued, IsServed};
-ghost use Rattle.sa_desk.specs.Runs.{state_of};
-ghost use Rattle.sa_desk.specs.Charge.{charge, cost, cost_to};
+ghost use Rattle.sa_desk.specs.Charge.{charge};
 ghost use Rattle.sa_desk.specs.Contents.{IsCaller, IsOwner, HasRoom, state, phase};
 ghost use Rattle.sa_desk.specs.Serving.{IsRunOf, begin_turn, is_killed};
 ghost use Rattle.sa_desk.specs.call.Ask.{MayAsk};
@@ -27,9 +23,13 @@ ghost use Rattle.sa_desk.specs.call.Point.{MayPoint};
 ghost use Rattle.sa_desk.specs.call.Poll.{MayPoll};
 ghost use Rattle.sa_desk.specs.call.Withdraw.{MayWithdraw};
 
+mod begun;
+mod room;
+
 use crate::desk::Desk;
+use crate::desk::may::begun::has_begun;
+use crate::desk::may::room::stays_within;
 use crate::desk::parts::kill_stands;
-use crate::entry::{Entry, Event};
 use crate::outcome::{Finish, Outcome, StepStop};
 use crate::phase::Phase;
 use crate::request::{Reply, Request};
@@ -63,7 +63,7 @@ impl Desk {
         plan: &Option<Arc<Plan>>,
         values: &Option<Arc<Values>>,
     ) -> bool
-        ensures { IsTrue result → MayBegin self.now stamp (Event.Begin statement text.now version plan.now values.now) statement version (option_map arc_value plan.now) (option_map arc_value values.now) }
+        ensures { IsTrue result → MayBegin self.now stamp (Begin statement text.now version plan.now values.now) statement version (option_map arc_value plan.now) (option_map arc_value values.now) }
     {
         self.is_owner(stamp)
             && self.is_idle()
@@ -297,114 +297,6 @@ fn is_answered(replies: &[Reply], session: u32, statement: u32) -> bool
         }
     }
     false
-}
-
-/// Whether the statement whose Begin is the last one began in this turn, with the plan and the values.
-fn has_begun(journal: &[Entry], turn: u64, plan: &Plan, values: &[Value]) -> bool
-    ensures { IsTrue result → (terms : Terms) (statement : Statement) (execution : Execution) → (state_of terms journal.now).phase ≡ planned statement execution → (statement.turn ≡ turn) × (execution.plan ≡ plan.now) × (execution.values ≡ values.now) }
-{
-    let mut begun = false;
-    for entry in journal {
-        begun = begins(entry, turn, plan, values).unwrap_or(begun);
-    }
-    begun
-}
-
-/// Whether the entry, if it is a Begin, is of this turn and has the plan and the values.
-fn begins(entry: &Entry, turn: u64, plan: &Plan, values: &[Value]) -> Option<bool>
-    ensures other { result ≡ None → (number version : ℕ) (text : declared_text.Text) (its_plan : Option (Arc declared_plan.Plan Global)) (its_values : Option (Arc declared_values.Values Global)) →
-        entry.now.event ≢ Event.Begin number text version its_plan its_values }
-    ensures begun { result ≡ Some true → (number : ℕ) × (version : ℕ) × (text : declared_text.Text) × (its_plan : Option (Arc declared_plan.Plan Global)) × (its_values : Option (Arc declared_values.Values Global)) ×
-        (entry.now.event ≡ Event.Begin number text version its_plan its_values) × (entry.now.turn ≡ turn) × (option_map arc_value its_plan ≡ Some plan.now) × (option_map arc_value its_values ≡ Some values.now) }
-{
-    match &entry.event {
-        Event::Begin {
-            plan: Some(its_plan),
-            values: Some(its_values),
-            ..
-        } => Some(
-            entry.turn == turn
-                && same_plan(its_plan, plan)
-                && same_values(its_values.as_slice(), values),
-        ),
-        Event::Begin { .. } => Some(false),
-        _ => None,
-    }
-}
-
-/// Whether the plans are equal.
-fn same_plan(a: &Plan, b: &Plan) -> bool
-    ensures { IsTrue result → a.now ≡ b.now }
-{
-    a.table.as_str() == b.table.as_str()
-        && a.column.as_str() == b.column.as_str()
-        && a.op == b.op
-        && a.literal == b.literal
-        && a.rows == b.rows
-        && a.cost == b.cost
-}
-
-/// Whether the values are equal numbers.
-fn same_values(a: &[Value], b: &[Value]) -> bool
-    ensures { IsTrue result → a.now ≡ b.now }
-{
-    if a.len() != b.len() {
-        return false;
-    }
-    for place in 0..a.len() {
-        if !same_value(&a[place], &b[place]) {
-            return false;
-        }
-    }
-    true
-}
-
-/// Whether the values are equal numbers, or both are NULL.
-fn same_value(a: &Value, b: &Value) -> bool
-    ensures { IsTrue result → a.now ≡ b.now }
-{
-    match (a, b) {
-        (Value::Null, Value::Null) => true,
-        (Value::Int(a), Value::Int(b)) => a == b,
-        _ => false,
-    }
-}
-
-/// Whether the actor's entries cost so little that a further cost stays within its share.
-fn stays_within(journal: &[Entry], actor: u32, share: u32, more: u32) -> bool
-    ensures { IsTrue result → charge actor journal.now + more ≤ share }
-{
-    let mut left = share;
-    for entry in journal {
-        let cost = cost_to(actor, entry);
-        if left < cost {
-            return false;
-        }
-        left -= cost;
-    }
-    more <= left
-}
-
-/// What the entry costs the actor.
-fn cost_to(actor: u32, entry: &Entry) -> u32
-    ensures { result ≡ cost_to actor entry.now }
-{
-    if entry.actor == actor {
-        cost(&entry.event)
-    } else {
-        0
-    }
-}
-
-/// What an entry of this event costs.
-fn cost(event: &Event) -> u32
-    ensures { result ≡ cost event.now }
-{
-    match event {
-        Event::Queued { .. } => 2,
-        Event::Served { .. } => 0,
-        _ => 1,
-    }
 }
 
 /// Whether a plan and its values are given together, and the plan is lawful for them.

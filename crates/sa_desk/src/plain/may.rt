@@ -1,5 +1,5 @@
 //! Whether a call of the desks may be made, looked up while the program runs. Tests alone ask so.
-ghost use Rattle.std.specs.Prelude.{◌≡◌, ◌≤◌, true, length, IsTrue, option_map};
+ghost use Rattle.std.specs.Prelude.{◌≡◌, true, IsTrue, option_map};
 ghost use Rattle.std.specs.Arc.{arc_value};
 ghost use Rattle.sa_desk.specs.declared.entry.Event.TheVariants.{Begin};
 ghost use Rattle.sa_desk.specs.Plain.{is_there, are_there, desk_at, world_of};

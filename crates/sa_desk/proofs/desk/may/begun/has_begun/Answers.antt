@@ -9,7 +9,7 @@ use Rattle.sa_desk.specs.After.{after}
 use Rattle.sa_desk.specs.Runs.{state_of}
 use Rattle.sa_desk.proofs.Append.{state_of-push}
 use Rattle.sa_desk.proofs.Checks.{HasBegun, IsOther, HasBegun-other, HasBegun-begin}
-use Rattle.sa_desk.proofs.desk.may.has_begun.Goals as goal
+use Rattle.sa_desk.proofs.desk.may.begun.has_begun.Goals as goal
 
 -- one more entry
 one_more : (terms : Terms) (turn : ℕ) (plan : Plan) (values : List Value) (before : State) (entry : Entry) (answer : Option Bool) (was : Bool)
