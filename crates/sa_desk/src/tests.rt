@@ -68,6 +68,11 @@ fn wait_spent(rt: HostRuntime) -> Result<(), Fail> {
 }
 
 #[test]
+fn wait_short(rt: HostRuntime) -> Result<(), Fail> {
+    worked::wait_short(rt.alloc())
+}
+
+#[test]
 fn wait_killed(rt: HostRuntime) -> Result<(), Fail> {
     worked::wait_killed(rt.alloc())
 }

@@ -12,7 +12,7 @@ use crate::tests::session::elsewhere::Errand;
 use sa_ast::{AskKind, KillKind};
 use sa_meaning::Running;
 use sa_value::{OutOfMemory, Text};
-use std::alloc::{AllocError, Global};
+use std::alloc::Global;
 use std::mem::replace;
 use std::test::Fail;
 
@@ -42,26 +42,20 @@ impl Work {
 
     /// Its canonical text.
     fn text(self, alloc: Global) -> Result<Text, OutOfMemory> {
-        match self {
-            Work::Select => query::text(alloc),
-            _ => Ok(Text::from_string(self.words(alloc)?)),
-        }
-    }
-
-    /// The text of a statement that isn't the query.
-    fn words(self, alloc: Global) -> Result<String, AllocError> {
-        match self {
-            Work::Select | Work::Set => String::from_str(alloc, "SET max_row_steps = 6"),
+        let text = match self {
+            Work::Select => return query::text(alloc),
             Work::Show { kind, id } => match kind {
-                AskKind::Explain => format!(in alloc; "SHOW EXPLAIN FOR {id}"),
-                AskKind::Analyze => format!(in alloc; "SHOW ANALYZE FOR {id}"),
+                AskKind::Explain => format!(in alloc; "SHOW EXPLAIN FOR {id}")?,
+                AskKind::Analyze => format!(in alloc; "SHOW ANALYZE FOR {id}")?,
             },
-            Work::Wait { id, at } => format!(in alloc; "WAIT FOR {id} AT {at}"),
+            Work::Wait { id, at } => format!(in alloc; "WAIT FOR {id} AT {at}")?,
             Work::Kill { kind, id } => match kind {
-                KillKind::Query => format!(in alloc; "KILL QUERY {id}"),
-                KillKind::Connection => format!(in alloc; "KILL {id}"),
+                KillKind::Query => format!(in alloc; "KILL QUERY {id}")?,
+                KillKind::Connection => format!(in alloc; "KILL {id}")?,
             },
-        }
+            Work::Set => String::from_str(alloc, "SET max_row_steps = 6")?,
+        };
+        Ok(Text::from_string(text))
     }
 }
 

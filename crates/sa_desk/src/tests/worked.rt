@@ -46,6 +46,8 @@ const KILL_1: Work = Work::Kill {
 
 const WAIT_4: Work = Work::Wait { id: 1, at: 4 };
 
+const WAIT_5: Work = Work::Wait { id: 1, at: 5 };
+
 /// A request that a point of the run answers.
 pub fn served_at_point(alloc: Global) -> Result<(), Fail> {
     let script = Script {
@@ -354,6 +356,31 @@ pub fn wait_spent(alloc: Global) -> Result<(), Fail> {
             "desk 2",
             "2 1 1 Begin 1 plain: WAIT FOR 1 AT 4",
             "2 3 5 End 1 after 0: WaitSpent { steps: 0, turns: 2 }",
+            "2 4 6 Close",
+        ],
+    )
+}
+
+/// A wait that one step more would have ended.
+pub fn wait_short(alloc: Global) -> Result<(), Fail> {
+    let script = Script {
+        sessions: &[&[Work::Select], &[WAIT_5]],
+        quantum: 4,
+        turns: 2,
+        schedule: &[1, 2, 1, 2, 2, 2, 2],
+    };
+    compare(
+        alloc,
+        &play(alloc, script)?,
+        &[
+            "desk 1",
+            "1 1 1 Begin 1 planned: SELECT a FROM t WHERE (a >= 2)",
+            "2 2 4 WaitSpent { statement: 1, steps: 4, turns: 2 }",
+            "1 2 3 End 1 after 6: rows a: 2 3",
+            "1 3 4 Close",
+            "desk 2",
+            "2 1 1 Begin 1 plain: WAIT FOR 1 AT 5",
+            "2 3 5 End 1 after 0: WaitSpent { steps: 4, turns: 2 }",
             "2 4 6 Close",
         ],
     )
