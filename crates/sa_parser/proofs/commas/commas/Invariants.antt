@@ -1,0 +1,11 @@
+-- The parts that are left are read in the turns that are left.
+use Rattle.std.proofs.Common.{◌≡◌, ◌-◌, [], ◌∷◌, ◌++◌}
+use Rattle.sa_lexer.specs.declared.sign.Sign.TheVariants as signs
+use Rattle.sa_parser.specs.Reading.{commas, more, sees_sign, sign, ◌<$>◌, ◌<*>◌}
+use Rattle.sa_parser.proofs.commas.commas.Given as goal
+
+abbrev pub invariant-loop-turn : goal.invariant-loop-turn
+invariant-loop-turn g l =
+    let part = g.T.Listed.part l.fn.levels in
+    let next = (λ _ next. next) <$> sign signs.Comma <*> part in
+    commas part l.fn.cursor ≡ more (sees_sign signs.Comma) (λ found next. found ++ next ∷ []) next (l._turn-end - l._turn) l.parts l.cursor

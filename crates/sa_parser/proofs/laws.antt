@@ -1,0 +1,17 @@
+pub mod Begins
+pub mod Chain
+pub mod Either
+pub mod EitherAhead
+pub mod Exactly
+pub mod Fails
+pub mod Levels
+pub mod Made
+pub mod Many
+pub mod One
+pub mod Perhaps
+pub mod Placed
+pub mod Refuse
+pub mod Reshaped
+pub mod Several
+pub mod Then
+pub mod Words

@@ -1,0 +1,10 @@
+use Rattle.sa_parser.specs.Parse.{IsStatement, IsSetup}
+use Rattle.sa_parser.proofs.Agreement.{statement-unique, setup-unique}
+use Rattle.sa_parser.proofs.OneAnswer.{one-answer}
+use Rattle.sa_parser.proofs.unique.tokens_have_one_answer.Goals as goal
+
+pub returns : goal.returns
+returns c = record {
+  statement = λ tokens. one-answer IsStatement tokens (statement-unique tokens);
+  setup = λ tokens. one-answer IsSetup tokens (setup-unique tokens);
+}

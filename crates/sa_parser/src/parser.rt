@@ -1,0 +1,121 @@
+ghost use Rattle.std.specs.Prelude.{◌≡◌, ◌≤◌, length, take, drop, Err, Some, IfOk};
+ghost use Rattle.sa_parser.specs.Answer.{IsFirstTooDeep, TellsFault};
+ghost use Rattle.sa_parser.specs.Depth.{StaysFlat};
+ghost use Rattle.sa_parser.specs.Fault as fault;
+ghost use Rattle.sa_parser.specs.Grammar.{form_of};
+ghost use Rattle.sa_parser.specs.Parse.{IsStatement, IsSetup, IsAnswer, SetsUp};
+ghost use Rattle.sa_print.specs.Statement.{HasText};
+
+use crate::answer::ParseFault;
+use crate::cursor::is_sign;
+use crate::depth::first_too_deep;
+use crate::grammar::Grammar;
+use crate::judgement::{Judgement, first_faulty, judge};
+use crate::kind::is_unsupported;
+use sa_ast::Statement;
+use sa_lexer::{Sign, Token, Tokens};
+use sa_value::OutOfMemory;
+use std::alloc::Global;
+
+/// The tree of a statement of a session.
+///
+/// # Errors
+///
+/// The first fault of the tokens: the first token with which they begin no statement, or that goes
+/// 65 levels deep, or the end where some are missing.
+pub fn parse(alloc: Global, tokens: &Tokens) -> Result<Statement, ParseFault>
+    ensures answer { IsAnswer IsStatement tokens.now result }
+    // It has a canonical text.
+    ensures text { IfOk result HasText }
+{
+    parse_by(alloc, Grammar::Session, tokens.as_slice())
+}
+
+/// The tree of a statement that sets tables up: a CREATE TABLE or an INSERT.
+///
+/// # Errors
+///
+/// Those of [`parse`].
+pub fn parse_setup(alloc: Global, tokens: &Tokens) -> Result<Statement, ParseFault>
+    ensures answer { IsAnswer IsSetup tokens.now result }
+    ensures sets_up { IfOk result SetsUp }
+{
+    parse_by(alloc, Grammar::Setup, tokens.as_slice())
+}
+
+/// The tree of a statement of the grammar.
+fn parse_by(alloc: Global, grammar: Grammar, tokens: &[Token]) -> Result<Statement, ParseFault>
+    ensures { IsAnswer (form_of grammar) tokens.now result }
+{
+    match first_too_deep(tokens) {
+        None => parse_flat(alloc, grammar, tokens),
+        Some(place) => Err(fault_up_to(alloc, grammar, tokens, place)?),
+    }
+}
+
+/// The tree of tokens that go nowhere too deep.
+fn parse_flat(alloc: Global, grammar: Grammar, tokens: &[Token]) -> Result<Statement, ParseFault>
+    requires { StaysFlat tokens.now }
+    ensures { IsAnswer (form_of grammar) tokens.now result }
+{
+    match judge(alloc, grammar, tokens)? {
+        Judgement::Whole(tree) => Ok(tree),
+        Judgement::Faulty(count) => Err(fault_behind(alloc, grammar, tokens, count)?),
+    }
+}
+
+/// The fault of tokens of which the one at `place` goes too deep: that, or one before it. A star
+/// goes too deep only where it may stand.
+fn fault_up_to(
+    alloc: Global,
+    grammar: Grammar,
+    tokens: &[Token],
+    place: usize,
+) -> Result<ParseFault, OutOfMemory>
+    requires { IsFirstTooDeep tokens.now (Some place) }
+    ensures { IfOk result (λ fault. IsAnswer (form_of grammar) tokens.now (Err fault)) }
+{
+    let token = &tokens[place];
+    let judged = if is_sign(token, Sign::Star) {
+        place + 1
+    } else {
+        place
+    };
+    match first_faulty(alloc, grammar, &tokens[..judged])? {
+        None => Ok(ParseFault::TooDeep { place: token.start }),
+        Some(count) => fault_behind(alloc, grammar, tokens, count),
+    }
+}
+
+/// The fault that stands behind the first `count` tokens.
+fn fault_behind(
+    alloc: Global,
+    grammar: Grammar,
+    tokens: &[Token],
+    count: usize,
+) -> Result<ParseFault, OutOfMemory>
+    requires { count ≤ length tokens.now }
+    ensures { IfOk result (TellsFault (form_of grammar) (take count tokens.now) (drop count tokens.now)) }
+{
+    let Some(token) = tokens.get(count) else {
+        return Ok(ParseFault::Syntax {
+            place: end_of(tokens),
+        });
+    };
+    let place = token.start;
+    if is_unsupported(alloc, grammar, &tokens[..count], token)? {
+        Ok(ParseFault::NotSupported { place })
+    } else {
+        Ok(ParseFault::Syntax { place })
+    }
+}
+
+/// The end of the last token.
+fn end_of(tokens: &[Token]) -> usize
+    ensures { result ≡ fault.end_of tokens.now }
+{
+    match tokens {
+        [.., last] => last.end,
+        [] => 0,
+    }
+}

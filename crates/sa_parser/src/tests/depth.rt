@@ -1,0 +1,86 @@
+use super::long::repeated;
+use super::*;
+
+/// `SELECT a FROM t WHERE`, so many brackets, and a condition in them.
+fn bracketed(alloc: Global, brackets: usize, condition: &str) -> Result<String, Fail> {
+    let opened = repeated(alloc, "SELECT a FROM t WHERE ", "(", brackets, condition)?;
+    Ok(repeated(alloc, opened.as_str(), ")", brackets, "")?)
+}
+
+/// The condition within so many brackets is read as this.
+fn is_nested<R: Abort + Alloc<A = Global>>(
+    rt: &R,
+    brackets: usize,
+    condition: &str,
+    wanted: &str,
+) -> Result<(), Fail> {
+    let text = bracketed(rt.alloc(), brackets, condition)?;
+    is_read(rt, text.as_str(), wanted)
+}
+
+#[test]
+fn reads_64_levels_and_no_more(rt: HostRuntime) -> Result<(), Fail> {
+    let rows = [
+        (63, "a = 1", "SELECT a FROM t WHERE (a = 1)"),
+        (64, "a", "SELECT a FROM t WHERE a"),
+        (64, "a = 1", "TooDeep at 88"),
+        (65, "a = 1", "TooDeep at 86"),
+        (63, "a = b = c", "TooDeep at 91"),
+        (62, "a = b = c", "Syntax at 90"),
+        (64, "a b", "Syntax at 88"),
+    ];
+    for (brackets, condition, wanted) in rows {
+        is_nested(&rt, brackets, condition, wanted)?;
+    }
+    Ok(())
+}
+
+/// What stands so many times before the rest, in a condition.
+fn is_prefixed<R: Abort + Alloc<A = Global>>(
+    rt: &R,
+    prefix: &str,
+    times: usize,
+    rest: &str,
+    wanted: &str,
+) -> Result<(), Fail> {
+    let text = repeated(rt.alloc(), "SELECT a FROM t WHERE ", prefix, times, rest)?;
+    is_read(rt, text.as_str(), wanted)
+}
+
+#[test]
+fn counts_what_goes_deeper(rt: HostRuntime) -> Result<(), Fail> {
+    let rows = [
+        ("NOT ", 65, "a", "TooDeep at 278"),
+        ("- ", 65, "a", "TooDeep at 150"),
+        ("a + ", 65, "a", "TooDeep at 280"),
+        ("a * ", 65, "a", "TooDeep at 280"),
+        ("NOT ", 64, "a = 1", "TooDeep at 280"),
+    ];
+    for (prefix, times, rest, wanted) in rows {
+        is_prefixed(&rt, prefix, times, rest, wanted)?;
+    }
+    Ok(())
+}
+
+/// A comma, AND, OR and the words of clauses begin afresh.
+#[test]
+fn counts_afresh(rt: HostRuntime) -> Result<(), Fail> {
+    let joined = repeated(rt.alloc(), "SELECT a FROM t WHERE a", " AND a = 1", 70, "")?;
+    let wanted = repeated(
+        rt.alloc(),
+        "SELECT a FROM t WHERE (a",
+        " AND (a = 1)",
+        70,
+        ")",
+    )?;
+    is_read(&rt, joined.as_str(), wanted.as_str())?;
+    let listed = repeated(rt.alloc(), "SELECT -1", ", -1", 70, " FROM t")?;
+    is_read(&rt, listed.as_str(), listed.as_str())
+}
+
+/// The stars of `*`, `t.*` and `COUNT(*)` count nothing.
+#[test]
+fn counts_no_star_of_columns(rt: HostRuntime) -> Result<(), Fail> {
+    let text = bracketed(rt.alloc(), 63, "COUNT(*)")?;
+    is_read(&rt, text.as_str(), "SELECT a FROM t WHERE COUNT(*)")
+}
