@@ -10,6 +10,7 @@ mod depth;
 mod expressions;
 mod faults;
 mod long;
+mod places;
 mod setup;
 mod statements;
 

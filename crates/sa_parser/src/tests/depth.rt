@@ -84,3 +84,33 @@ fn counts_no_star_of_columns(rt: HostRuntime) -> Result<(), Fail> {
     let text = bracketed(rt.alloc(), 63, "COUNT(*)")?;
     is_read(&rt, text.as_str(), "SELECT a FROM t WHERE COUNT(*)")
 }
+
+/// What stands before the innermost condition, and behind it.
+fn between_levels(
+    alloc: Global,
+    not: &str,
+    between: &str,
+    end: &str,
+) -> Result<(String, String), Fail> {
+    let mut before = String::new(alloc);
+    let mut behind = String::new(alloc);
+    for brackets in 0..63 {
+        before.push_str(repeated(alloc, "", not, 63 - brackets, between)?.as_str())?;
+        behind.push_str(repeated(alloc, "", end, 63 - brackets, ")")?.as_str())?;
+    }
+    Ok((before, behind))
+}
+
+/// The AND of a BETWEEN begins afresh too. So a statement of 64 levels can nest some two thousand
+/// times, and is read.
+#[test]
+fn reads_what_nests_deeper_than_it_counts(rt: HostRuntime) -> Result<(), Fail> {
+    let alloc = rt.alloc();
+    let (before, behind) = between_levels(alloc, "NOT ", "a BETWEEN 1 AND (", "")?;
+    let text = format!(in alloc; "SELECT a FROM t WHERE {before}b{behind}")?;
+    let (before, behind) = between_levels(alloc, "(NOT ", "(a BETWEEN 1 AND ", ")")?;
+    let wanted = format!(in alloc; "SELECT a FROM t WHERE {before}b{behind}")?;
+    let found = session_line(alloc, text.as_str())?;
+    assert!(rt; found.as_str() == wanted.as_str(), "for {text}");
+    Ok(())
+}
