@@ -7,15 +7,17 @@
 mod comparison;
 mod memory;
 mod row;
+mod sequence;
 mod text;
 mod texts;
 mod truth;
 mod value;
 mod values;
 
-pub use comparison::compare;
+pub use comparison::{compare, order_is_total, order_of};
 pub use memory::OutOfMemory;
 pub use row::{Row, Rows};
+pub use sequence::Sequence;
 pub use text::Text;
 pub use texts::Texts;
 pub use truth::{CompareOp, Truth};

@@ -53,6 +53,46 @@ impl CompareOp {
 impl Truth {
     ghost use Rattle.std.specs.Prelude.{◌≡◌};
     ghost use Rattle.sa_value.specs.Compare.{known};
+    ghost use Rattle.sa_value.specs.Logic.{conjunction, disjunction, negation};
+
+    /// `self AND other`: FALSE where one is FALSE, else UNKNOWN where one is UNKNOWN.
+    ///
+    /// Source: MariaDB Knowledge Base, "AND".
+    pub fn and(self, other: Truth) -> Truth
+        ensures { result ≡ conjunction self other }
+    {
+        match (self, other) {
+            (Truth::False, _) | (_, Truth::False) => Truth::False,
+            (Truth::Unknown, _) | (_, Truth::Unknown) => Truth::Unknown,
+            (Truth::True, Truth::True) => Truth::True,
+        }
+    }
+
+    /// `self OR other`: TRUE where one is TRUE, else UNKNOWN where one is UNKNOWN.
+    ///
+    /// Source: MariaDB Knowledge Base, "OR".
+    pub fn or(self, other: Truth) -> Truth
+        ensures { result ≡ disjunction self other }
+    {
+        match (self, other) {
+            (Truth::True, _) | (_, Truth::True) => Truth::True,
+            (Truth::Unknown, _) | (_, Truth::Unknown) => Truth::Unknown,
+            (Truth::False, Truth::False) => Truth::False,
+        }
+    }
+
+    /// `NOT self`, which is UNKNOWN where it is UNKNOWN.
+    ///
+    /// Source: MariaDB Knowledge Base, "NOT".
+    pub fn not(self) -> Truth
+        ensures { result ≡ negation self }
+    {
+        match self {
+            Truth::False => Truth::True,
+            Truth::Unknown => Truth::Unknown,
+            Truth::True => Truth::False,
+        }
+    }
 
     /// The truth of what is known to hold or not.
     pub(crate) fn known(holds: bool) -> Truth
