@@ -3,7 +3,7 @@ use Rattle.std.proofs.Common.{◌≡◌, ℕ, Global, ◌+◌, List, [], ◌∷�
 use Rattle.std.specs.Arc.{arc_value}
 use Rattle.std.specs.declared.sync.Arc.{Arc}
 use Rattle.sa_value.specs.declared.text.Text.{Text}
-use Rattle.sa_value.specs.declared.values.Values.{Values}
+use Rattle.sa_value.specs.declared.sequence.Sequence.{Sequence}
 use Rattle.sa_value.specs.declared.value.Value.{Value}
 use Rattle.sa_count.specs.declared.report.Report.{Report}
 use Rattle.sa_plan.specs.declared.plan.Plan.{Plan}
@@ -141,7 +141,7 @@ module _ (terms : Terms) (doomed : Bool) (replies : List Reply) (desk actor seq 
   begun_empty statement (Some plan) (Some values) = refl
   begun_empty statement plan values = refl
 
-  on_begin : (phase : Phase) (number : ℕ) (text : Text) (version : ℕ) (plan : Option (Arc Plan Global)) (values : Option (Arc Values Global)) → Goal phase (Begin number text version plan values)
+  on_begin : (phase : Phase) (number : ℕ) (text : Text) (version : ℕ) (plan : Option (Arc Plan Global)) (values : Option (Arc (Sequence Value) Global)) → Goal phase (Begin number text version plan values)
   on_begin idle number text version plan values comes = keeps (record {
     same_queue = begun_empty (record { number = number; begin = seq; turn = turn; killed = false }) (option_map arc_value plan) (option_map arc_value values);
     same_replies = refl;

@@ -7,7 +7,7 @@ use Rattle.std.specs.Arc.{arc_value}
 use Rattle.std.specs.declared.sync.Arc.{Arc}
 use Rattle.sa_value.specs.declared.text.Text.{Text}
 use Rattle.sa_value.specs.declared.value.Value.{Value}
-use Rattle.sa_value.specs.declared.values.Values.{Values}
+use Rattle.sa_value.specs.declared.sequence.Sequence.{Sequence}
 use Rattle.sa_plan.specs.declared.plan.Plan.{Plan}
 use Rattle.sa_desk.specs.declared.entry.Entry.{Entry}
 use Rattle.sa_desk.specs.declared.entry.Event.{Event}
@@ -33,7 +33,7 @@ HasBegun turn plan values phase = ⊤
 
 -- The event isn't a Begin.
 abbrev pub IsOther : Event → Type 0
-IsOther event = (number version : ℕ) (text : Text) (plan : Option (Arc Plan Global)) (values : Option (Arc Values Global)) → event ≢ Begin number text version plan values
+IsOther event = (number version : ℕ) (text : Text) (plan : Option (Arc Plan Global)) (values : Option (Arc (Sequence Value) Global)) → event ≢ Begin number text version plan values
 
 module _ (turn : ℕ) (plan : Plan) (values : List Value) where
   still-served : (quantum : ℕ) (statement : Statement) (execution : Execution) (queue : List Request) (steps at : ℕ) → HasBegun turn plan values (planned statement execution)
@@ -81,7 +81,7 @@ module _ (turn : ℕ) (plan : Plan) (values : List Value) where
   begun-so statement None None at is are = tt
 
   -- A Begin with this plan and these values makes it so.
-  pub HasBegun-begin : (terms : Terms) (state : State) (entry : Entry) (number version : ℕ) (text : Text) (its : Option (Arc Plan Global)) (others : Option (Arc Values Global))
+  pub HasBegun-begin : (terms : Terms) (state : State) (entry : Entry) (number version : ℕ) (text : Text) (its : Option (Arc Plan Global)) (others : Option (Arc (Sequence Value) Global))
       → entry.event ≡ Begin number text version its others → entry.turn ≡ turn → option_map arc_value its ≡ Some plan → option_map arc_value others ≡ Some values
       → HasBegun turn plan values (after terms state entry).phase
   HasBegun-begin terms state entry number version text its others event at is are =

@@ -8,7 +8,7 @@ use Rattle.std.proofs.lemmas.List.Folds.{list_any-append}
 use Rattle.std.proofs.lemmas.List.Elements.{All-nil, All-push, All-tail, All-filter, All-weaker, filter_map-append}
 use Rattle.sa_value.specs.declared.text.Text.{Text}
 use Rattle.sa_value.specs.declared.value.Value.{Value}
-use Rattle.sa_value.specs.declared.values.Values.{Values}
+use Rattle.sa_value.specs.declared.sequence.Sequence.{Sequence}
 use Rattle.sa_plan.specs.declared.plan.Plan.{Plan}
 use Rattle.sa_ast.specs.declared.kind.AskKind.{AskKind}
 use Rattle.sa_ast.specs.declared.kind.KillKind.{KillKind}
@@ -181,7 +181,7 @@ module _ (terms : Terms) (before : List Entry) (doomed : Bool) (replies : List R
       ComesIn terms (the_state phase) (the_entry event) phase event → AllStandIn (queue_of phase) replies → TellsIn terms before phase →
       TellsIn terms (before ++ the_entry event ∷ []) (after_event terms (the_state phase) (the_entry event) event).phase
 
-  abbrev on_begin : (number : ℕ) (text : Text) (version : ℕ) (plan : Option (Arc Plan Global)) (values : Option (Arc Values Global)) → actor ≡ terms.desk
+  abbrev on_begin : (number : ℕ) (text : Text) (version : ℕ) (plan : Option (Arc Plan Global)) (values : Option (Arc (Sequence Value) Global)) → actor ≡ terms.desk
       → Tells terms (before ++ the_entry (Begin number text version plan values) ∷ []) (record { number = number; begin = seq; turn = turn; killed = false })
   on_begin number text version plan values own = record {
     on = record {
@@ -200,7 +200,7 @@ module _ (terms : Terms) (before : List Entry) (doomed : Bool) (replies : List R
     killed = refl;
   }
 
-  on_begun : (number : ℕ) (text : Text) (version : ℕ) (plan : Option (Arc Plan Global)) (values : Option (Arc Values Global)) (the_plan : Option Plan) (the_values : Option (List Value))
+  on_begun : (number : ℕ) (text : Text) (version : ℕ) (plan : Option (Arc Plan Global)) (values : Option (Arc (Sequence Value) Global)) (the_plan : Option Plan) (the_values : Option (List Value))
       → actor ≡ terms.desk → option_map arc_value plan ≡ the_plan → option_map arc_value values ≡ the_values
       → TellsIn terms (before ++ the_entry (Begin number text version plan values) ∷ []) (begun (record { number = number; begin = seq; turn = turn; killed = false }) the_plan the_values)
   on_begun number text version plan values (Some the_plan) (Some the_values) own is_plan is_values = record {

@@ -3,7 +3,8 @@ use Rattle.std.specs.Prelude.{◌≡◌, ℕ, ⊤, List, ◌∷◌, ◌++◌, Op
 use Rattle.std.specs.Global.{Global}
 use Rattle.std.specs.declared.sync.Arc.{Arc}
 use Rattle.sa_value.specs.declared.text.Text.{Text}
-use Rattle.sa_value.specs.declared.values.Values.{Values}
+use Rattle.sa_value.specs.declared.sequence.Sequence.{Sequence}
+use Rattle.sa_value.specs.declared.value.Value.{Value}
 use Rattle.sa_plan.specs.declared.plan.Plan.{Plan}
 use Rattle.sa_desk.specs.declared.entry.Entry.{Entry}
 use Rattle.sa_desk.specs.declared.entry.Event.{Event}
@@ -27,6 +28,6 @@ pub record IsOn (terms : Terms) (number : ℕ) (before : List Entry) : Type 0 wh
   pub text : Text
   pub version : ℕ
   pub plan : Option (Arc Plan Global)
-  pub values : Option (Arc Values Global)
+  pub values : Option (Arc (Sequence Value) Global)
   pub begins : begin.event ≡ Begin number text version plan values
   pub within : All (λ entry. IsWithin entry.event) since

@@ -4,7 +4,8 @@ ghost use Rattle.std.specs.Global.{Global};
 ghost use Rattle.std.specs.Arc.{arc_value};
 ghost use Rattle.std.specs.declared.sync.Arc.{Arc};
 ghost use Rattle.sa_value.specs.declared.text.Text as declared_text;
-ghost use Rattle.sa_value.specs.declared.values.Values as declared_values;
+ghost use Rattle.sa_value.specs.declared.sequence.Sequence as declared_sequence;
+ghost use Rattle.sa_value.specs.declared.value.Value as declared_value;
 ghost use Rattle.sa_plan.specs.declared.plan.Plan as declared_plan;
 ghost use Rattle.sa_desk.specs.State.{Terms, Statement, Execution, planned};
 ghost use Rattle.sa_desk.specs.Runs.{state_of};
@@ -26,9 +27,9 @@ pub fn has_begun(journal: &[Entry], turn: u64, plan: &Plan, values: &[Value]) ->
 
 /// Whether the entry, if it is a Begin, is of this turn and has the plan and the values.
 fn begins(entry: &Entry, turn: u64, plan: &Plan, values: &[Value]) -> Option<bool>
-    ensures other { result ≡ None → (number version : ℕ) (text : declared_text.Text) (its_plan : Option (Arc declared_plan.Plan Global)) (its_values : Option (Arc declared_values.Values Global)) →
+    ensures other { result ≡ None → (number version : ℕ) (text : declared_text.Text) (its_plan : Option (Arc declared_plan.Plan Global)) (its_values : Option (Arc (declared_sequence.Sequence declared_value.Value) Global)) →
         entry.now.event ≢ Event.Begin number text version its_plan its_values }
-    ensures begun { result ≡ Some true → (number : ℕ) × (version : ℕ) × (text : declared_text.Text) × (its_plan : Option (Arc declared_plan.Plan Global)) × (its_values : Option (Arc declared_values.Values Global)) ×
+    ensures begun { result ≡ Some true → (number : ℕ) × (version : ℕ) × (text : declared_text.Text) × (its_plan : Option (Arc declared_plan.Plan Global)) × (its_values : Option (Arc (declared_sequence.Sequence declared_value.Value) Global)) ×
         (entry.now.event ≡ Event.Begin number text version its_plan its_values) × (entry.now.turn ≡ turn) × (option_map arc_value its_plan ≡ Some plan.now) × (option_map arc_value its_values ≡ Some values.now) }
 {
     match &entry.event {
