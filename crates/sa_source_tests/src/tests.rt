@@ -1,6 +1,9 @@
 ghost use Rattle.std.specs.Prelude.{◌<◌};
 
-use super::*;
+use sa_source::{
+    Failed, MemorySink, MemorySource, PlainSink, PlainSource, ReadStop, Sink, SinkFault, Source,
+    StdSink, StdSource, read_up_to, write_all,
+};
 use std::alloc::{AllocError, Global};
 use std::io;
 use std::io::ErrorKind;
@@ -12,6 +15,7 @@ use std::test::Fail;
 fn gives(
     rt: &impl Abort,
     alloc: Global,
+    name: &str,
     room: usize,
     piece: usize,
     failing: &[u64],
@@ -23,8 +27,8 @@ fn gives(
     let mut buffer = vec![in alloc; 0u8; room]?;
     for answer in answers {
         match source.read(&mut buffer) {
-            Ok(count) => assert_eq!(rt; &buffer[..count], answer.as_bytes()),
-            Err(Failed) => assert_eq!(rt; "!", *answer),
+            Ok(count) => assert_eq!(rt; &buffer[..count], answer.as_bytes(), "{name}"),
+            Err(Failed) => assert_eq!(rt; "!", *answer, "{name}"),
         }
     }
     Ok(())
@@ -33,16 +37,80 @@ fn gives(
 #[test]
 fn gives_pieces(rt: HostRuntime) -> Result<(), Fail> {
     let alloc = rt.alloc();
-    gives(&rt, alloc, 1, 10, &[], &["a", "b", "c", "", ""])?;
-    gives(&rt, alloc, 10, 1, &[], &["a", "b", "c", "", ""])?;
-    gives(&rt, alloc, 2, 10, &[], &["ab", "c", "", ""])?;
-    gives(&rt, alloc, 10, 10, &[], &["abc", "", ""])?;
-    gives(&rt, alloc, 0, 10, &[], &["", ""])?;
-    gives(&rt, alloc, 10, 2, &[1], &["!", "ab", "c", ""])?;
-    gives(&rt, alloc, 10, 2, &[2], &["ab", "!", "c", ""])?;
-    gives(&rt, alloc, 10, 2, &[3], &["ab", "c", "!", ""])?;
-    gives(&rt, alloc, 10, 2, &[4, 1], &["!", "ab", "c", "!", ""])?;
-    gives(&rt, alloc, 10, 2, &[0, 9], &["ab", "c", "", ""])?;
+    gives(
+        &rt,
+        alloc,
+        "small buffer",
+        1,
+        10,
+        &[],
+        &["a", "b", "c", "", ""],
+    )?;
+    gives(
+        &rt,
+        alloc,
+        "small pieces",
+        10,
+        1,
+        &[],
+        &["a", "b", "c", "", ""],
+    )?;
+    gives(
+        &rt,
+        alloc,
+        "pieces of two",
+        2,
+        10,
+        &[],
+        &["ab", "c", "", ""],
+    )?;
+    gives(&rt, alloc, "all at once", 10, 10, &[], &["abc", "", ""])?;
+    gives(&rt, alloc, "no buffer", 0, 10, &[], &["", ""])?;
+    gives(
+        &rt,
+        alloc,
+        "first call fails",
+        10,
+        2,
+        &[1],
+        &["!", "ab", "c", ""],
+    )?;
+    gives(
+        &rt,
+        alloc,
+        "second call fails",
+        10,
+        2,
+        &[2],
+        &["ab", "!", "c", ""],
+    )?;
+    gives(
+        &rt,
+        alloc,
+        "third call fails",
+        10,
+        2,
+        &[3],
+        &["ab", "c", "!", ""],
+    )?;
+    gives(
+        &rt,
+        alloc,
+        "two calls fail",
+        10,
+        2,
+        &[4, 1],
+        &["!", "ab", "c", "!", ""],
+    )?;
+    gives(
+        &rt,
+        alloc,
+        "no such call",
+        10,
+        2,
+        &[0, 9],
+        &["ab", "c", "", ""],
+    )?;
     Ok(())
 }
 
@@ -51,6 +119,7 @@ fn gives_pieces(rt: HostRuntime) -> Result<(), Fail> {
 fn takes(
     rt: &impl Abort,
     alloc: Global,
+    name: &str,
     piece: usize,
     failing: &[u64],
     answers: &[&str],
@@ -60,8 +129,8 @@ fn takes(
     let mut sink = MemorySink::new(alloc, piece, failing.to_vec(alloc)?);
     for answer in answers {
         match sink.write(b"abc") {
-            Ok(_) => assert_eq!(rt; sink.taken(), answer.as_bytes()),
-            Err(fault) => assert_eq!(rt; (fault, "!"), (SinkFault::Failed, *answer)),
+            Ok(_) => assert_eq!(rt; sink.taken(), answer.as_bytes(), "{name}"),
+            Err(fault) => assert_eq!(rt; (fault, "!"), (SinkFault::Failed, *answer), "{name}"),
         }
     }
     Ok(())
@@ -70,13 +139,34 @@ fn takes(
 #[test]
 fn takes_pieces(rt: HostRuntime) -> Result<(), Fail> {
     let alloc = rt.alloc();
-    takes(&rt, alloc, 1, &[], &["a", "aa", "aaa"])?;
-    takes(&rt, alloc, 2, &[], &["ab", "abab"])?;
-    takes(&rt, alloc, 10, &[], &["abc", "abcabc"])?;
-    takes(&rt, alloc, 2, &[1], &["!", "ab", "abab"])?;
-    takes(&rt, alloc, 2, &[2], &["ab", "!", "abab"])?;
-    takes(&rt, alloc, 2, &[4, 1], &["!", "ab", "abab", "!", "ababab"])?;
-    takes(&rt, alloc, 2, &[0, 9], &["ab", "abab"])?;
+    takes(&rt, alloc, "byte by byte", 1, &[], &["a", "aa", "aaa"])?;
+    takes(&rt, alloc, "pieces of two", 2, &[], &["ab", "abab"])?;
+    takes(&rt, alloc, "all at once", 10, &[], &["abc", "abcabc"])?;
+    takes(
+        &rt,
+        alloc,
+        "first call fails",
+        2,
+        &[1],
+        &["!", "ab", "abab"],
+    )?;
+    takes(
+        &rt,
+        alloc,
+        "second call fails",
+        2,
+        &[2],
+        &["ab", "!", "abab"],
+    )?;
+    takes(
+        &rt,
+        alloc,
+        "two calls fail",
+        2,
+        &[4, 1],
+        &["!", "ab", "abab", "!", "ababab"],
+    )?;
+    takes(&rt, alloc, "no such call", 2, &[0, 9], &["ab", "abab"])?;
     Ok(())
 }
 
