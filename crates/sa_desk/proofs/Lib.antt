@@ -4,11 +4,9 @@ pub mod CallLeftMore
 pub mod Called
 pub mod Capacity
 pub mod Changes
-pub mod Checks
 pub mod Counted
 pub mod Counts
 pub mod Grown
-pub mod Items
 pub mod Keeps
 pub mod Lists
 pub mod Numbered

@@ -4,8 +4,6 @@ ghost use Rattle.sa_desk.specs.New.{MayMake, new_desk};
 
 mod asker;
 mod finishing;
-#[cfg(test)]
-pub mod may;
 mod owner;
 mod parts;
 mod seats;

@@ -26,6 +26,3 @@ pub use outcome::{Finish, Outcome, StepStop};
 pub use plain::PlainDesks;
 pub use request::{Reply, Request, Wait};
 pub use stamp::{Caller, Stamp};
-
-#[cfg(test)]
-mod tests;

@@ -3,9 +3,6 @@ ghost use Rattle.arrayvec.specs.ArrayVec.{array_vec_len};
 ghost use Rattle.sa_desk.specs.Plain.{AreNew, IsPlain, are_there, world_of};
 ghost use Rattle.sa_desk.specs.World.{Meets};
 
-#[cfg(test)]
-mod may;
-
 use crate::answer::{Asked, Begun, Ended, Killed, Looked, Polled, Seen, Withdrawn};
 use crate::desk::Desk;
 use crate::desks::Desks;
