@@ -11,6 +11,7 @@ pub mod Keeps
 pub mod Lists
 pub mod Numbered
 pub mod PlainCall
+pub mod PlainNew
 pub mod Queue
 pub mod Room
 pub mod Seats
