@@ -14,8 +14,9 @@ use Rattle.sa_desk.specs.declared.stamp.Caller.{Caller}
 use Rattle.sa_desk.specs.declared.stamp.Stamp.{Stamp}
 use Rattle.sa_desk.specs.Runs.{IsEntryOf}
 use Rattle.sa_desk.specs.Contents.{Contents, IsSound}
-use Rattle.sa_desk.specs.World.{quiet_of, made_by, standing_on, next_stamp, Begins, Meets, IsCall}
-use Rattle.sa_desk.specs.Plain.{Plain, all_entries, is_numbered, entries_of, no_desk, desk_at, are_there, quiet_at, world_of, AreOwn, IsPlain, made_of, next_plain}
+use Rattle.sa_desk.specs.New.{no_desk}
+use Rattle.sa_desk.specs.World.{quiet_of, Leaves, made_by, standing_on, next_stamp, Begins, Meets, IsCall}
+use Rattle.sa_desk.specs.Plain.{Plain, all_entries, is_numbered, entries_of, desk_at, are_there, quiet_at, world_of, AreOwn, IsPlain, made_of, next_plain}
 use Rattle.sa_desk.proofs.Capacity.{sound_fits}
 use Rattle.sa_desk.proofs.Numbered.{filter-nothing, filter-everything, filter-finer, filter-none_left, Inserted, filter-unchanged, filter-new, length-inserted, range-append, flat_map-same, numbers_of, AreNumbered, none_numbered, each_numbered, flat_map-nothing}
 
@@ -25,17 +26,6 @@ pub record AreThere (plain : Plain) (desk session : ℕ) : Type 0 where
   pub desk_most : desk ≤ length plain.desks
   pub session_least : 1 ≤ session
   pub session_most : session ≤ length plain.desks
-
--- What a call of the session has left at the desk: the desk as before but for these entries and what the session has counted.
-pub record IsLeft (plain : Plain) (desk session : ℕ) (entries : List Entry) (next : Contents) : Type 0 where
-  pub sound : IsSound next
-  pub terms : next.terms ≡ (desk_at plain desk).terms
-  pub shares : next.shares ≡ (desk_at plain desk).shares
-  pub grown : next.journal ≡ (desk_at plain desk).journal ++ entries
-  pub standing : All (λ entry. entry.desk ≡ desk) entries
-  pub made : All (λ entry. entry.actor ≡ session) entries
-  pub numbered : AreNumbered (made_of plain session + 1) entries
-  pub quiet : (other : ℕ) → 1 ≤ other → other ≢ session → quiet_of next other ≡ quiet_of (desk_at plain desk) other
 
 -- A desk has more entries at the end of its journal, and so have all desks together at some place.
 pub all_entries-set : (desks : List Contents) (place : ℕ) (next : Contents) (entries : List Entry) → place < length desks
@@ -156,7 +146,7 @@ Meets-plain plain is desk session allowed =
       counted = rw allowed refl;
     }
 
-module _ (plain : Plain) (is : IsPlain plain) (desk session : ℕ) (allowed : are_there plain desk session ≡ true) (entries : List Entry) (next : Contents) (left : IsLeft plain desk session entries next) where
+module _ (plain : Plain) (is : IsPlain plain) (desk session : ℕ) (allowed : are_there plain desk session ≡ true) (entries : List Entry) (next : Contents) (left : Leaves (desk_at plain desk) next session (made_of plain session + 1) entries) where
   abbrev pub after : Plain
   after = next_plain plain desk session entries next
 
@@ -219,7 +209,7 @@ module _ (plain : Plain) (is : IsPlain plain) (desk session : ℕ) (allowed : ar
       ∙ ap₂ ◌++◌
       (flat_map-same find (λ number. filter (is_numbered session number) (all_entries plain.desks)) 1 (made_of plain session) (λ n least most. old_entries n (omega arith)))
       (flat_map-same find (λ number. filter (is_numbered session number) entries) first (length entries) (λ n least most. new_entries n (omega arith))
-      ∙ each_numbered session first entries left.made numbered)
+      ∙ each_numbered session first entries left.own numbered)
 
   -- The others have made what they had.
   others_entries : (other number : ℕ) → other ≢ session → filter (is_numbered other number) (all_entries after.desks) ≡ filter (is_numbered other number) (all_entries plain.desks)
@@ -227,7 +217,7 @@ module _ (plain : Plain) (is : IsPlain plain) (desk session : ℕ) (allowed : ar
       filter-unchanged (is_numbered other number) entries (all_entries plain.desks) (all_entries after.desks) inserted
       (filter-nothing (is_numbered other number) entries
       (All-weaker (λ entry. entry.actor ≡ session) (λ entry. is_numbered other number entry ≡ false)
-      (λ entry by. ap (λ is. is && (entry.seq == number)) (ne_eqb entry.actor other (λ same. apart (sym same ∙ by)))) entries left.made))
+      (λ entry by. ap (λ is. is && (entry.seq == number)) (ne_eqb entry.actor other (λ same. apart (sym same ∙ by)))) entries left.own))
 
   pub entries_of-others : (other : ℕ) → other ≢ session → entries_of after other ≡ entries_of plain other
   entries_of-others other apart =
@@ -247,21 +237,24 @@ module _ (plain : Plain) (is : IsPlain plain) (desk session : ℕ) (allowed : ar
       ]
 
   -- what stands on a desk of the new entries, and what of them is a session's
+  standing : All (λ entry. entry.desk ≡ desk) entries
+  standing = let there = there in subst (λ number. All (λ entry. entry.desk ≡ number) entries) (is.numbers desk there.desk_least there.desk_most) left.standing
+
   standing-here : standing_on desk entries ≡ entries
-  standing-here = filter-everything (λ entry. entry.desk == desk) entries (All-weaker (λ entry. entry.desk ≡ desk) (λ entry. (entry.desk == desk) ≡ true) (λ entry is. eq-eqb entry.desk desk is) entries left.standing)
+  standing-here = filter-everything (λ entry. entry.desk == desk) entries (All-weaker (λ entry. entry.desk ≡ desk) (λ entry. (entry.desk == desk) ≡ true) (λ entry is. eq-eqb entry.desk desk is) entries standing)
 
   standing-elsewhere : (at : ℕ) → at ≢ desk → standing_on at entries ≡ []
   standing-elsewhere at apart =
       filter-nothing (λ entry. entry.desk == at) entries
-      (All-weaker (λ entry. entry.desk ≡ desk) (λ entry. (entry.desk == at) ≡ false) (λ entry is. ne_eqb entry.desk at (λ same. apart (sym same ∙ is))) entries left.standing)
+      (All-weaker (λ entry. entry.desk ≡ desk) (λ entry. (entry.desk == at) ≡ false) (λ entry is. ne_eqb entry.desk at (λ same. apart (sym same ∙ is))) entries standing)
 
   made_by-session : made_by session entries ≡ entries
-  made_by-session = filter-everything (λ entry. entry.actor == session) entries (All-weaker (λ entry. entry.actor ≡ session) (λ entry. (entry.actor == session) ≡ true) (λ entry is. eq-eqb entry.actor session is) entries left.made)
+  made_by-session = filter-everything (λ entry. entry.actor == session) entries (All-weaker (λ entry. entry.actor ≡ session) (λ entry. (entry.actor == session) ≡ true) (λ entry is. eq-eqb entry.actor session is) entries left.own)
 
   made_by-others : (other : ℕ) → other ≢ session → made_by other entries ≡ []
   made_by-others other apart =
       filter-nothing (λ entry. entry.actor == other) entries
-      (All-weaker (λ entry. entry.actor ≡ session) (λ entry. (entry.actor == other) ≡ false) (λ entry is. ne_eqb entry.actor other (λ same. apart (sym same ∙ is))) entries left.made)
+      (All-weaker (λ entry. entry.actor ≡ session) (λ entry. (entry.actor == other) ≡ false) (λ entry is. ne_eqb entry.actor other (λ same. apart (sym same ∙ is))) entries left.own)
 
   made_by-left : (who : ℕ) → made_by who next.journal ≡ made_by who (desk_at plain desk).journal ++ made_by who entries
   made_by-left who = ap (made_by who) left.grown ∙ filter-append (λ entry. entry.actor == who) (desk_at plain desk).journal entries
@@ -351,8 +344,10 @@ module _ (plain : Plain) (is : IsPlain plain) (desk session : ℕ) (allowed : ar
   -- The call was one of the session.
   pub IsCall-next : IsCall (world_of plain) (world_of after) desk session entries next
   IsCall-next =
+      let there = there in
       record {
         met = Meets-plain plain is desk session allowed;
+        leaves = subst (λ count. Leaves (desk_at plain desk) next session (count + 1) entries) (sym (length-entries_of plain is session there.session_least there.session_most)) left;
         seen_is = ap (λ contents. contents.journal) here;
         counted_is = rw (same_there desk session, allowed) (ap (λ contents. quiet_of contents session) here);
         mine_is = entries_of-session;
@@ -362,4 +357,11 @@ module _ (plain : Plain) (is : IsPlain plain) (desk session : ℕ) (allowed : ar
         quiet_elsewhere = λ at apart. same_quiet session at (λ same. absurd (apart same));
         same_terms = both_ways (λ before later. later.terms ≡ before.terms) left.terms (λ contents. refl);
         same_shares = both_ways (λ before later. later.shares ≡ before.shares) left.shares (λ contents. refl);
+        left_is = λ other may. here;
+        elsewhere_is = λ at other apart may.
+            let there = there in
+            let others = are_there-is after at other may in
+            let least = others.desk_least in
+            elsewhere at (λ same. apart (omega arith));
+        still = Meets-plain after IsPlain-next;
       }

@@ -7,6 +7,7 @@ pub mod Contents
 pub mod New
 pub mod Serving
 pub mod World
+pub mod Own
 pub mod call
 pub mod law
 pub mod Desk

@@ -4,8 +4,6 @@ ghost use Rattle.sa_desk.specs.New.{MayMake, new_desk};
 
 mod asker;
 mod finishing;
-#[cfg(test)]
-pub mod may;
 mod owner;
 mod parts;
 mod seats;
@@ -86,9 +84,38 @@ impl Desk {
 
     /// The number of entries in its journal.
     pub fn len(&self) -> u32
-        ensures { result ≡ length self.now.journal }
+        ensures count { result ≡ length self.now.journal }
+        ensures sound { IsSound self.now }
     {
         self.journal.len() as u32
+    }
+
+    /// Its number, which is that of its session.
+    pub fn number(&self) -> u32
+        ensures { result ≡ self.now.terms.desk }
+    {
+        self.number
+    }
+
+    /// How many steps a turn makes at most.
+    pub fn quantum(&self) -> u32
+        ensures { result ≡ self.now.terms.quantum }
+    {
+        self.quantum
+    }
+
+    /// How many turns a request or a wait lasts.
+    pub fn turns(&self) -> u64
+        ensures { result ≡ self.now.terms.turns }
+    {
+        self.turns
+    }
+
+    /// Each session's share of the journal.
+    pub fn shares(&self) -> &[u32]
+        ensures { result.now ≡ self.now.shares }
+    {
+        self.shares.as_slice()
     }
 
     /// Its journal. It takes no memory.

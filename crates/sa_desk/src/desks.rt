@@ -33,6 +33,9 @@ pub trait Desks {
     /// What is known of the desks.
     ghost world: { Self → World };
 
+    /// What no call changes: which object these desks are.
+    ghost keeps: { Self → Self → Type 0 };
+
     /// Begins a statement, as `Desk::begin`.
     fn begin(
         &mut self,
@@ -48,6 +51,7 @@ pub trait Desks {
         requires begin { let old = world self.old in
             MayBegin (old.contents desk) (next_stamp old me) (Begin statement text version plan values) statement version (option_map arc_value plan) (option_map arc_value values) }
         ensures answer { result ≡ begin_answer (state ((world self.old).contents desk)).doomed }
+        ensures same { keeps self.old self.new }
         ensures call { let old = world self.old in let at = old.contents desk in let stamp = next_stamp old me in let event = Begin statement text version plan values in
             IsCall old (world self.new) desk me.actor (begin_entries at stamp event statement) (after_begin at stamp event statement) };
 
@@ -57,6 +61,7 @@ pub trait Desks {
         requires point { let old = world self.old in MayPoint (old.contents desk) (next_stamp old me) (R.progress run.old) }
         ensures answer { result ≡ point_answer (is_killed (phase ((world self.old).contents desk))) }
         ensures run { R.progress run.new ≡ record (R.progress run.old) { since_looked = 0 } }
+        ensures same { keeps self.old self.new }
         ensures call { let old = world self.old in let at = old.contents desk in let stamp = next_stamp old me in
             IsCall old (world self.new) desk me.actor (served_entries at stamp (R.progress run.old)) (after_point at stamp (R.progress run.old)) };
 
@@ -65,6 +70,7 @@ pub trait Desks {
         requires allowed { (world self.old).may_call desk me.actor ≡ true }
         requires look_own { let old = world self.old in MayLookOwn (old.contents desk) (next_stamp old me) }
         ensures answer { result ≡ point_answer (is_killed (phase ((world self.old).contents desk))) }
+        ensures same { keeps self.old self.new }
         ensures call { let old = world self.old in IsCall old (world self.new) desk me.actor [] (old.contents desk) };
 
     /// Ends a statement, as `Desk::end`.
@@ -72,6 +78,7 @@ pub trait Desks {
         requires allowed { (world self.old).may_call desk me.actor ≡ true }
         requires end { let old = world self.old in MayEnd R.progress (old.contents desk) (next_stamp old me) statement finish }
         ensures answer { result ≡ end_answer (is_killed (phase ((world self.old).contents desk))) }
+        ensures same { keeps self.old self.new }
         ensures call { let old = world self.old in let at = old.contents desk in let stamp = next_stamp old me in let run = run_of R.progress finish in let outcome = outcome_of R.progress finish in
             IsCall old (world self.new) desk me.actor (end_entries at stamp statement run outcome) (after_end at stamp statement run outcome) };
 
@@ -80,6 +87,7 @@ pub trait Desks {
         requires allowed { (world self.old).may_call desk me.actor ≡ true }
         requires ask { let old = world self.old in MayAsk (old.contents desk) (next_stamp old me) statement kind budget }
         ensures answer { result ≡ ask_answer (phase ((world self.old).contents desk)) }
+        ensures same { keeps self.old self.new }
         ensures call { let old = world self.old in let at = old.contents desk in let stamp = next_stamp old me in
             IsCall old (world self.new) desk me.actor (ask_entries at stamp statement kind budget) (after_ask at stamp statement kind budget) };
 
@@ -88,6 +96,7 @@ pub trait Desks {
         requires allowed { (world self.old).may_call desk me.actor ≡ true }
         requires poll { let old = world self.old in MayPoll (old.contents desk) (next_stamp old me) statement }
         ensures answer { let old = world self.old in result ≡ polled (old.contents desk) (next_stamp old me) statement }
+        ensures same { keeps self.old self.new }
         ensures call { let old = world self.old in let at = old.contents desk in let stamp = next_stamp old me in
             IsCall old (world self.new) desk me.actor (poll_entries at stamp statement) (after_poll at stamp statement) };
 
@@ -96,6 +105,7 @@ pub trait Desks {
         requires allowed { (world self.old).may_call desk me.actor ≡ true }
         requires withdraw { let old = world self.old in MayWithdraw (old.contents desk) (next_stamp old me) statement }
         ensures answer { let old = world self.old in result ≡ withdrawn (old.contents desk) (next_stamp old me) statement }
+        ensures same { keeps self.old self.new }
         ensures call { let old = world self.old in let at = old.contents desk in let stamp = next_stamp old me in
             IsCall old (world self.new) desk me.actor (withdraw_entries at stamp statement) (after_withdraw at stamp statement) };
 
@@ -104,6 +114,7 @@ pub trait Desks {
         requires allowed { (world self.old).may_call desk me.actor ≡ true }
         requires kill { let old = world self.old in MayKill (old.contents desk) (next_stamp old me) statement kind }
         ensures answer { result ≡ kill_answer (phase ((world self.old).contents desk)) }
+        ensures same { keeps self.old self.new }
         ensures call { let old = world self.old in let at = old.contents desk in let stamp = next_stamp old me in
             IsCall old (world self.new) desk me.actor (kill_entries at stamp statement kind) (after_kill at stamp statement kind) };
 
@@ -112,6 +123,7 @@ pub trait Desks {
         requires allowed { (world self.old).may_call desk me.actor ≡ true }
         requires look { let old = world self.old in MayLook (old.contents desk) (next_stamp old me) statement at budget }
         ensures answer { let old = world self.old in result ≡ looked (old.contents desk) (next_stamp old me) statement at }
+        ensures same { keeps self.old self.new }
         ensures call { let old = world self.old in let found = old.contents desk in let stamp = next_stamp old me in
             IsCall old (world self.new) desk me.actor (look_entries found stamp statement at) (after_look found stamp statement at) };
 
@@ -119,6 +131,7 @@ pub trait Desks {
     fn close(&mut self, desk: u32, me: Caller)
         requires allowed { (world self.old).may_call desk me.actor ≡ true }
         requires close { let old = world self.old in MayClose (old.contents desk) (next_stamp old me) }
+        ensures same { keeps self.old self.new }
         ensures call { let old = world self.old in let at = old.contents desk in let stamp = next_stamp old me in
             IsCall old (world self.new) desk me.actor (close_entries at stamp) (after_close at stamp) };
 }

@@ -1,10 +1,8 @@
 ghost use Rattle.std.specs.Prelude.{◌≡◌, ℕ, true, ◌+◌, ◌-◌, ◌<◌, ◌≤◌, ◌^◌, length, replicate, map, slice_index, slice_set, IfOk};
 ghost use Rattle.arrayvec.specs.ArrayVec.{array_vec_len};
-ghost use Rattle.sa_desk.specs.Plain.{AreNew, IsPlain, are_there, world_of};
-ghost use Rattle.sa_desk.specs.World.{Meets};
-
-#[cfg(test)]
-mod may;
+ghost use Rattle.sa_desk.specs.New.{AreNew};
+ghost use Rattle.sa_desk.specs.Plain.{IsPlain, are_there, world_of};
+ghost use Rattle.sa_desk.specs.World.{Meets, IsFirst};
 
 use crate::answer::{Asked, Begun, Ended, Killed, Looked, Polled, Seen, Withdrawn};
 use crate::desk::Desk;
@@ -50,6 +48,7 @@ impl PlainDesks {
         requires { AreNew desks.items }
         ensures desks { IfOk result (λ all. all ≡ record { desks = desks.items; made = replicate (length desks.items) 0 }) }
         ensures plain { IfOk result IsPlain }
+        ensures first { IfOk result (λ all. IsFirst (world_of all)) }
     {
         let made = nothing_made(desks.len());
         let journals = Vec::with_capacity(alloc, desks.len())?;
@@ -87,25 +86,11 @@ impl PlainDesks {
 }
 
 impl Desks for PlainDesks {
-    ghost use Rattle.std.specs.Prelude.{◌≡◌, true, [], option_map};
-    ghost use Rattle.std.specs.Arc.{arc_value};
-    ghost use Rattle.sa_desk.specs.declared.entry.Event.TheVariants.{Begin};
-    ghost use Rattle.sa_desk.specs.Contents.{phase, state};
-    ghost use Rattle.sa_desk.specs.Serving.{served_entries, is_killed};
-    ghost use Rattle.sa_desk.specs.World.{next_stamp, IsCall};
-    ghost use Rattle.sa_desk.specs.call.Ask.{MayAsk, ask_answer, ask_entries, after_ask};
-    ghost use Rattle.sa_desk.specs.call.Begin.{MayBegin, begin_answer, begin_entries, after_begin};
-    ghost use Rattle.sa_desk.specs.call.Close.{MayClose, close_entries, after_close};
-    ghost use Rattle.sa_desk.specs.call.End.{MayEnd, end_answer, end_entries, after_end, run_of, outcome_of};
-    ghost use Rattle.sa_desk.specs.call.Kill.{MayKill, kill_answer, kill_entries, after_kill};
-    ghost use Rattle.sa_desk.specs.call.Look.{MayLook, looked, look_entries, after_look};
-    ghost use Rattle.sa_desk.specs.call.LookOwn.{MayLookOwn};
-    ghost use Rattle.sa_desk.specs.call.Point.{MayPoint, point_answer, after_point};
-    ghost use Rattle.sa_desk.specs.call.Poll.{MayPoll, polled, poll_entries, after_poll};
-    ghost use Rattle.sa_desk.specs.call.Withdraw.{MayWithdraw, withdrawn, withdraw_entries, after_withdraw};
-    ghost use Rattle.sa_desk.specs.Plain.{desk_at, stamp_at, next_plain};
+    ghost use Rattle.sa_desk.specs.Plain.{SameDesks, world_of};
 
     ghost world = { world_of };
+
+    ghost keeps = { SameDesks };
 
     fn begin(
         &mut self,
@@ -116,16 +101,7 @@ impl Desks for PlainDesks {
         version: u64,
         plan: Option<Arc<Plan>>,
         values: Option<Arc<Values>>,
-    ) -> Begun
-        requires allowed { (world_of self.old).may_call desk me.actor ≡ true }
-        requires begin { let old = world_of self.old in
-            MayBegin (old.contents desk) (next_stamp old me) (Begin statement text version plan values) statement version (option_map arc_value plan) (option_map arc_value values) }
-        ensures answer { result ≡ begin_answer (state ((world_of self.old).contents desk)).doomed }
-        ensures call { let old = world_of self.old in let at = old.contents desk in let stamp = next_stamp old me in let event = Begin statement text version plan values in
-            IsCall old (world_of self.new) desk me.actor (begin_entries at stamp event statement) (after_begin at stamp event statement) }
-        ensures left { let at = desk_at self.old desk in let stamp = stamp_at self.old me in let event = Begin statement text version plan values in
-            self.new ≡ next_plain self.old desk me.actor (begin_entries at stamp event statement) (after_begin at stamp event statement) }
-    {
+    ) -> Begun {
         let stamp = next_stamp(&self.made, me);
         let at = &mut self.desks[place_of(desk)];
         let before = at.len();
@@ -135,16 +111,7 @@ impl Desks for PlainDesks {
         answer
     }
 
-    fn point<R: Running>(&mut self, desk: u32, me: Caller, run: &mut R) -> Seen
-        requires allowed { (world_of self.old).may_call desk me.actor ≡ true }
-        requires point { let old = world_of self.old in MayPoint (old.contents desk) (next_stamp old me) (R.progress run.old) }
-        ensures answer { result ≡ point_answer (is_killed (phase ((world_of self.old).contents desk))) }
-        ensures run { R.progress run.new ≡ record (R.progress run.old) { since_looked = 0 } }
-        ensures call { let old = world_of self.old in let at = old.contents desk in let stamp = next_stamp old me in
-            IsCall old (world_of self.new) desk me.actor (served_entries at stamp (R.progress run.old)) (after_point at stamp (R.progress run.old)) }
-        ensures left { let at = desk_at self.old desk in let stamp = stamp_at self.old me in
-            self.new ≡ next_plain self.old desk me.actor (served_entries at stamp (R.progress run.old)) (after_point at stamp (R.progress run.old)) }
-    {
+    fn point<R: Running>(&mut self, desk: u32, me: Caller, run: &mut R) -> Seen {
         let stamp = next_stamp(&self.made, me);
         let at = &mut self.desks[place_of(desk)];
         let before = at.len();
@@ -154,14 +121,7 @@ impl Desks for PlainDesks {
         answer
     }
 
-    fn look_own(&mut self, desk: u32, me: Caller) -> Seen
-        requires allowed { (world_of self.old).may_call desk me.actor ≡ true }
-        requires look_own { let old = world_of self.old in MayLookOwn (old.contents desk) (next_stamp old me) }
-        ensures answer { result ≡ point_answer (is_killed (phase ((world_of self.old).contents desk))) }
-        ensures call { let old = world_of self.old in IsCall old (world_of self.new) desk me.actor [] (old.contents desk) }
-        ensures left { let at = desk_at self.old desk in
-            self.new ≡ next_plain self.old desk me.actor [] at }
-    {
+    fn look_own(&mut self, desk: u32, me: Caller) -> Seen {
         let stamp = next_stamp(&self.made, me);
         let at = &mut self.desks[place_of(desk)];
         let before = at.len();
@@ -171,15 +131,13 @@ impl Desks for PlainDesks {
         answer
     }
 
-    fn end<R: Running>(&mut self, desk: u32, me: Caller, statement: u32, finish: Finish<R>) -> Ended
-        requires allowed { (world_of self.old).may_call desk me.actor ≡ true }
-        requires end { let old = world_of self.old in MayEnd R.progress (old.contents desk) (next_stamp old me) statement finish }
-        ensures answer { result ≡ end_answer (is_killed (phase ((world_of self.old).contents desk))) }
-        ensures call { let old = world_of self.old in let at = old.contents desk in let stamp = next_stamp old me in let run = run_of R.progress finish in let outcome = outcome_of R.progress finish in
-            IsCall old (world_of self.new) desk me.actor (end_entries at stamp statement run outcome) (after_end at stamp statement run outcome) }
-        ensures left { let at = desk_at self.old desk in let stamp = stamp_at self.old me in let run = run_of R.progress finish in let outcome = outcome_of R.progress finish in
-            self.new ≡ next_plain self.old desk me.actor (end_entries at stamp statement run outcome) (after_end at stamp statement run outcome) }
-    {
+    fn end<R: Running>(
+        &mut self,
+        desk: u32,
+        me: Caller,
+        statement: u32,
+        finish: Finish<R>,
+    ) -> Ended {
         let stamp = next_stamp(&self.made, me);
         let at = &mut self.desks[place_of(desk)];
         let before = at.len();
@@ -189,15 +147,7 @@ impl Desks for PlainDesks {
         answer
     }
 
-    fn ask(&mut self, desk: u32, me: Caller, statement: u32, kind: AskKind, budget: u64) -> Asked
-        requires allowed { (world_of self.old).may_call desk me.actor ≡ true }
-        requires ask { let old = world_of self.old in MayAsk (old.contents desk) (next_stamp old me) statement kind budget }
-        ensures answer { result ≡ ask_answer (phase ((world_of self.old).contents desk)) }
-        ensures call { let old = world_of self.old in let at = old.contents desk in let stamp = next_stamp old me in
-            IsCall old (world_of self.new) desk me.actor (ask_entries at stamp statement kind budget) (after_ask at stamp statement kind budget) }
-        ensures left { let at = desk_at self.old desk in let stamp = stamp_at self.old me in
-            self.new ≡ next_plain self.old desk me.actor (ask_entries at stamp statement kind budget) (after_ask at stamp statement kind budget) }
-    {
+    fn ask(&mut self, desk: u32, me: Caller, statement: u32, kind: AskKind, budget: u64) -> Asked {
         let stamp = next_stamp(&self.made, me);
         let at = &mut self.desks[place_of(desk)];
         let before = at.len();
@@ -207,15 +157,7 @@ impl Desks for PlainDesks {
         answer
     }
 
-    fn poll(&mut self, desk: u32, me: Caller, statement: u32) -> Polled
-        requires allowed { (world_of self.old).may_call desk me.actor ≡ true }
-        requires poll { let old = world_of self.old in MayPoll (old.contents desk) (next_stamp old me) statement }
-        ensures answer { let old = world_of self.old in result ≡ polled (old.contents desk) (next_stamp old me) statement }
-        ensures call { let old = world_of self.old in let at = old.contents desk in let stamp = next_stamp old me in
-            IsCall old (world_of self.new) desk me.actor (poll_entries at stamp statement) (after_poll at stamp statement) }
-        ensures left { let at = desk_at self.old desk in let stamp = stamp_at self.old me in
-            self.new ≡ next_plain self.old desk me.actor (poll_entries at stamp statement) (after_poll at stamp statement) }
-    {
+    fn poll(&mut self, desk: u32, me: Caller, statement: u32) -> Polled {
         let stamp = next_stamp(&self.made, me);
         let at = &mut self.desks[place_of(desk)];
         let before = at.len();
@@ -225,15 +167,7 @@ impl Desks for PlainDesks {
         answer
     }
 
-    fn withdraw(&mut self, desk: u32, me: Caller, statement: u32) -> Withdrawn
-        requires allowed { (world_of self.old).may_call desk me.actor ≡ true }
-        requires withdraw { let old = world_of self.old in MayWithdraw (old.contents desk) (next_stamp old me) statement }
-        ensures answer { let old = world_of self.old in result ≡ withdrawn (old.contents desk) (next_stamp old me) statement }
-        ensures call { let old = world_of self.old in let at = old.contents desk in let stamp = next_stamp old me in
-            IsCall old (world_of self.new) desk me.actor (withdraw_entries at stamp statement) (after_withdraw at stamp statement) }
-        ensures left { let at = desk_at self.old desk in let stamp = stamp_at self.old me in
-            self.new ≡ next_plain self.old desk me.actor (withdraw_entries at stamp statement) (after_withdraw at stamp statement) }
-    {
+    fn withdraw(&mut self, desk: u32, me: Caller, statement: u32) -> Withdrawn {
         let stamp = next_stamp(&self.made, me);
         let at = &mut self.desks[place_of(desk)];
         let before = at.len();
@@ -243,15 +177,7 @@ impl Desks for PlainDesks {
         answer
     }
 
-    fn kill(&mut self, desk: u32, me: Caller, statement: u32, kind: KillKind) -> Killed
-        requires allowed { (world_of self.old).may_call desk me.actor ≡ true }
-        requires kill { let old = world_of self.old in MayKill (old.contents desk) (next_stamp old me) statement kind }
-        ensures answer { result ≡ kill_answer (phase ((world_of self.old).contents desk)) }
-        ensures call { let old = world_of self.old in let at = old.contents desk in let stamp = next_stamp old me in
-            IsCall old (world_of self.new) desk me.actor (kill_entries at stamp statement kind) (after_kill at stamp statement kind) }
-        ensures left { let at = desk_at self.old desk in let stamp = stamp_at self.old me in
-            self.new ≡ next_plain self.old desk me.actor (kill_entries at stamp statement kind) (after_kill at stamp statement kind) }
-    {
+    fn kill(&mut self, desk: u32, me: Caller, statement: u32, kind: KillKind) -> Killed {
         let stamp = next_stamp(&self.made, me);
         let at = &mut self.desks[place_of(desk)];
         let before = at.len();
@@ -261,15 +187,7 @@ impl Desks for PlainDesks {
         answer
     }
 
-    fn look(&mut self, desk: u32, me: Caller, statement: u32, at: u64, budget: u64) -> Looked
-        requires allowed { (world_of self.old).may_call desk me.actor ≡ true }
-        requires look { let old = world_of self.old in MayLook (old.contents desk) (next_stamp old me) statement at budget }
-        ensures answer { let old = world_of self.old in result ≡ looked (old.contents desk) (next_stamp old me) statement at }
-        ensures call { let old = world_of self.old in let found = old.contents desk in let stamp = next_stamp old me in
-            IsCall old (world_of self.new) desk me.actor (look_entries found stamp statement at) (after_look found stamp statement at) }
-        ensures left { let found = desk_at self.old desk in let stamp = stamp_at self.old me in
-            self.new ≡ next_plain self.old desk me.actor (look_entries found stamp statement at) (after_look found stamp statement at) }
-    {
+    fn look(&mut self, desk: u32, me: Caller, statement: u32, at: u64, budget: u64) -> Looked {
         let stamp = next_stamp(&self.made, me);
         let found = &mut self.desks[place_of(desk)];
         let before = found.len();
@@ -279,14 +197,7 @@ impl Desks for PlainDesks {
         answer
     }
 
-    fn close(&mut self, desk: u32, me: Caller)
-        requires allowed { (world_of self.old).may_call desk me.actor ≡ true }
-        requires close { let old = world_of self.old in MayClose (old.contents desk) (next_stamp old me) }
-        ensures call { let old = world_of self.old in let at = old.contents desk in let stamp = next_stamp old me in
-            IsCall old (world_of self.new) desk me.actor (close_entries at stamp) (after_close at stamp) }
-        ensures left { let at = desk_at self.old desk in let stamp = stamp_at self.old me in
-            self.new ≡ next_plain self.old desk me.actor (close_entries at stamp) (after_close at stamp) }
-    {
+    fn close(&mut self, desk: u32, me: Caller) {
         let stamp = next_stamp(&self.made, me);
         let at = &mut self.desks[place_of(desk)];
         let before = at.len();

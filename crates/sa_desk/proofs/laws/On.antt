@@ -19,8 +19,8 @@ use Rattle.sa_desk.specs.declared.entry.Event.TheVariants.{Begin, Queued, Refuse
 use Rattle.sa_desk.specs.declared.request.Request.{Request}
 use Rattle.sa_desk.specs.declared.request.Reply.{Reply}
 use Rattle.sa_desk.specs.State.{Terms, Statement, Execution, Phase, idle, plain, planned, serving, closed, State, start, queue_of}
-use Rattle.sa_desk.specs.Comes.{ComesIn, ServesFirst}
-use Rattle.sa_desk.specs.After.{after_event, begun, served, showing, without}
+use Rattle.sa_desk.specs.Comes.{ComesIn, Comes, ServesFirst}
+use Rattle.sa_desk.specs.After.{after_event, after, begun, served, showing, without}
 use Rattle.sa_desk.specs.Runs.{state_of, Runs}
 use Rattle.sa_desk.specs.law.On.{IsWithin, IsOn}
 use Rattle.sa_desk.specs.law.Interrupted.{is_kill, has_kill}
@@ -31,9 +31,10 @@ use Rattle.sa_desk.proofs.laws.Along.{kept_with}
 use Rattle.sa_desk.proofs.laws.Mine.{mine-gone, none-mine}
 use Rattle.sa_desk.proofs.laws.Talk.{number_of, AllStandIn, AllStand, AllStand-start, AllStand-after, only_first, served_waits_not}
 
--- The statement is on where the entries say so, and is killed where a kill stands since its Begin.
+-- The statement is on where the entries say so, by that Begin, and is killed where a kill stands since.
 pub record Tells (terms : Terms) (before : List Entry) (statement : Statement) : Type 0 where
   pub on : IsOn terms statement.number before
+  pub begin : statement.begin ≡ on.begin.seq
   pub killed : statement.killed ≡ has_kill on.since
 
 -- Its plan and its values are those of its Begin, and each request that waits was queued since.
@@ -81,6 +82,7 @@ abbrev tells_more : (terms : Terms) (before : List Entry) (statement : Statement
     → Tells terms before statement → Tells terms (before ++ entry ∷ []) statement
 tells_more terms before statement entry within quiet tells = record {
   on = on_more terms statement.number before entry within tells.on;
+  begin = tells.begin;
   killed = tells.killed ∙ sym (has_kill-push tells.on.since entry false quiet ∙ or_false (has_kill tells.on.since));
 }
 
@@ -88,6 +90,7 @@ abbrev tells_kill : (terms : Terms) (before : List Entry) (statement : Statement
     → Tells terms before statement → Tells terms (before ++ entry ∷ []) (record statement { killed = true })
 tells_kill terms before statement entry within kill tells = record {
   on = on_more terms statement.number before entry within tells.on;
+  begin = tells.begin;
   killed = sym (has_kill-push tells.on.since entry true kill ∙ or_true (has_kill tells.on.since));
 }
 
@@ -197,6 +200,7 @@ module _ (terms : Terms) (before : List Entry) (doomed : Bool) (replies : List R
       begins = refl;
       within = All-nil (λ (entry : Entry). IsWithin entry.event);
     };
+    begin = refl;
     killed = refl;
   }
 
@@ -314,12 +318,14 @@ module _ (terms : Terms) (before : List Entry) (doomed : Bool) (replies : List R
   tells_after phase (Gone number) comes stand tells = on_quiet phase (Gone number) tt refl (λ session. refl) tells
   tells_after phase Close comes stand tells = tt
 
--- After each run the state says of the statement that is on what the entries say.
+-- What the state says of the statement that is on stays what the entries say.
+pub TellsIn-after : (terms : Terms) (before : List Entry) (state : State) (entry : Entry) → Comes terms state entry → AllStand state → TellsIn terms before state.phase
+    → TellsIn terms (before ++ entry ∷ []) (after terms state entry).phase
+TellsIn-after terms before state entry comes stand tells =
+    tells_after terms before state.doomed state.replies entry.desk entry.actor entry.seq entry.turn state.phase entry.event comes stand tells
+
 pub Tells-run : (terms : Terms) (before : List Entry) → Runs terms start before → TellsIn terms before (state_of terms before).phase
 Tells-run terms before run =
     (kept_with terms (λ entries state. TellsIn terms entries state.phase × AllStand state)
-    (λ entries state entry comes both. (
-      tells_after terms entries state.doomed state.replies entry.desk entry.actor entry.seq entry.turn state.phase entry.event comes both.1 both.0,
-      AllStand-after terms state entry comes both.1,
-    ))
+    (λ entries state entry comes both. (TellsIn-after terms entries state entry comes both.1 both.0, AllStand-after terms state entry comes both.1))
     [] start before run (tt, AllStand-start)).0

@@ -55,10 +55,17 @@ pub record Stands (session : ℕ) (standing : Standing) (queue : List Request) (
 abbrev pub Leads : Standing → Word → Standing → Type 0
 Leads standing word next = (rest : List Word) → IsTalk next rest → IsTalk standing (word ∷ rest)
 
+-- the standing after a word
+abbrev pub led_to : Word → Standing
+led_to (asks request) = waiting request
+led_to (answers request) = answered request
+led_to (takes request) = nothing_open
+led_to (leaves request) = nothing_open
+
 -- The session's standing after an entry that says this, or nothing.
 abbrev pub Led : ℕ → Standing → Option Word → List Request → List Reply → Type 0
 Led session standing None queue replies = Stands session standing queue replies
-Led session standing (Some word) queue replies = (next : Standing) × Leads standing word next × Stands session next queue replies
+Led session standing (Some word) queue replies = Leads standing word (led_to word) × Stands session (led_to word) queue replies
 
 -- An entry that says the word where its actor is the session, and else nothing.
 Led-if : (session actor : ℕ) (standing : Standing) (word : Word) (queue : List Request) (replies : List Reply)
@@ -85,7 +92,6 @@ asks_own : (session : ℕ) (standing : Standing) (queue : List Request) (replies
     → request.asker ≡ session → asked_by session queue ≡ [] → answered_to session replies ≡ [] → Stands session standing queue replies
     → Led session standing (Some (asks request.request)) (queue ++ request ∷ []) replies
 asks_own session nothing_open queue replies request own none unanswered stands = (
-  waiting request.request,
   (λ rest talk. talk),
   record {
     waits = mine-append asker_of number_of session queue (request ∷ []) ∙ ap (λ ns. ns ++ asked_by session (request ∷ [])) none
@@ -117,13 +123,13 @@ answers_own : (session : ℕ) (standing : Standing) (first : Request) (rest : Li
 answers_own session nothing_open first rest replies reply to number own stands =
     absurd (some_none first.request (asked_by session rest) (sym (mine-own asker_of number_of session first rest own) ∙ stands.waits))
 answers_own session (waiting n) first rest replies reply to number own stands =
-    let same : first.request ∷ asked_by session rest ≡ n ∷ [] = sym (mine-own asker_of number_of session first rest own) ∙ stands.waits in (
-      answered n,
-      (λ more talk. (same_first first.request n (asked_by session rest) [] same, talk)),
+    let same : first.request ∷ asked_by session rest ≡ n ∷ [] = sym (mine-own asker_of number_of session first rest own) ∙ stands.waits in
+    let number_is : first.request ≡ n = same_first first.request n (asked_by session rest) [] same in (
+      (λ more talk. (number_is, subst (λ m. IsTalk (answered m) more) number_is talk)),
       record {
         waits = same_rest first.request n (asked_by session rest) [] same;
         replied = mine-append replied_to number_in session replies (reply ∷ []) ∙ ap (λ ns. ns ++ answered_to session (reply ∷ [])) stands.replied
-            ∙ mine-own replied_to number_in session reply [] (to ∙ own) ∙ ap (λ number. number ∷ []) (number ∙ same_first first.request n (asked_by session rest) [] same);
+            ∙ mine-own replied_to number_in session reply [] (to ∙ own) ∙ ap (λ number. number ∷ []) number;
       },
     )
 answers_own session (answered n) first rest replies reply to number own stands =
@@ -152,7 +158,7 @@ takes_own session number (waiting n) queue replies there stands =
 takes_own session number (answered n) queue replies there stands =
     let same : number ≡ n = mine-has replied_to number_in (λ m. m ≡ n) session number replies
     (subst (All (λ m. m ≡ n)) (sym stands.replied) (All-cons (λ m. m ≡ n) n [] refl (All-nil (λ m. m ≡ n)))) there in
-    (nothing_open, (λ more talk. (same, talk)), record { waits = stands.waits; replied = mine-gone replied_to number_in session replies })
+    ((λ more talk. (same, talk)), record { waits = stands.waits; replied = mine-gone replied_to number_in session replies })
 
 on_takes : (session actor number : ℕ) (standing : Standing) (queue : List Request) (replies : List Reply)
     → IsServed actor number replies → Stands session standing queue replies
@@ -172,7 +178,7 @@ leaves_own session number nothing_open queue replies there stands =
 leaves_own session number (waiting n) queue replies there stands =
     let same : number ≡ n = mine-has asker_of number_of (λ m. m ≡ n) session number queue
     (subst (All (λ m. m ≡ n)) (sym stands.waits) (All-cons (λ m. m ≡ n) n [] refl (All-nil (λ m. m ≡ n)))) there in
-    (nothing_open, (λ more talk. (same, talk)), record { waits = mine-gone asker_of number_of session queue; replied = stands.replied })
+    ((λ more talk. (same, talk)), record { waits = mine-gone asker_of number_of session queue; replied = stands.replied })
 leaves_own session number (answered n) queue replies there stands =
     absurd (mine-has asker_of number_of (λ n. ⊥) session number queue (subst (All (λ n. ⊥)) (sym stands.waits) (All-nil (λ (n : ℕ). ⊥))) there)
 
@@ -288,7 +294,7 @@ IsTalk-more : (session : ℕ) (standing : Standing) (entry : Entry) (others : Li
     → word_by session entry.actor entry.event ≡ word → Led session standing word queue replies
     → ((next : Standing) → Stands session next queue replies → IsTalk next (words session others)) → IsTalk standing (words session (entry ∷ others))
 IsTalk-more session standing entry others None queue replies is led talks = rw is (talks standing led)
-IsTalk-more session standing entry others (Some word) queue replies is led talks = rw is (led.1 (words session others) (talks led.0 led.2))
+IsTalk-more session standing entry others (Some word) queue replies is led talks = rw is (led.0 (words session others) (talks (led_to word) led.1))
 
 pub IsTalk-run : (terms : Terms) (session : ℕ) (standing : Standing) (state : State) (journal : List Entry) → Runs terms state journal → StandsIn session standing state
     → IsTalk standing (words session journal)
@@ -311,7 +317,7 @@ AllStand state = AllStandIn (queue_of state.phase) state.replies
 stands_next : (session : ℕ) (standing : Standing) (word : Option Word) (queue : List Request) (replies : List Reply) → Led session standing word queue replies
     → (next : Standing) × Stands session next queue replies
 stands_next session standing None queue replies led = (standing, led)
-stands_next session standing (Some word) queue replies led = (led.0, led.2)
+stands_next session standing (Some word) queue replies led = (led_to word, led.1)
 
 pub AllStand-start : AllStand start
 AllStand-start session = (nothing_open, record { waits = refl; replied = refl })

@@ -25,10 +25,11 @@ pub record IsAsked (since : List Entry) (asker request at : ℕ) : Type 0 where
   pub asks : queued.event ≡ Queued request kind at budget
   pub silent : words asker later ≡ []
 
--- The answer that comes after these entries is about the statement that is on: its report is what the plan of that
--- statement's Begin counts over that Begin's values, after a number of steps that is at least the one at which the request
--- was queued, since that Begin, and at most a quantum more.
-pub record IsShown (terms : Terms) (before : List Entry) (asker request : ℕ) (report : Report) : Type 0 where
+-- The answer that comes after these entries is the desk's own session's, about its statement that is on: its report is what the
+-- plan of that statement's Begin counts over that Begin's values, after a number of steps that is at least the one at which the
+-- request was queued, since that Begin, and at most a quantum more.
+pub record IsShown (terms : Terms) (before : List Entry) (answer : Entry) (asker request : ℕ) (report : Report) : Type 0 where
+  pub own : answer.actor ≡ terms.desk
   pub number : ℕ
   pub on : IsOn terms number before
   pub plan : Plan
