@@ -1,6 +1,6 @@
 -- What a run has counted after so many items.
 -- Source of the names: MariaDB Knowledge Base, "ANALYZE FORMAT=JSON".
-use Rattle.std.specs.Prelude.{ℕ, ◌==◌, ◌&&◌, Bool, true, false, List, [], ◌∷◌, map, length, take, count_by}
+use Rattle.std.specs.Prelude.{ℕ, ◌==◌, ◌&&◌, Bool, true, false, List, map, length, take, count_by}
 use Rattle.std.specs.List.{range_with_len}
 use Rattle.sa_count.specs.declared.counters.Counters.{Counters}
 use Rattle.sa_count.specs.declared.report.Report.{Report}

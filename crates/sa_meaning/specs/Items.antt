@@ -51,10 +51,10 @@ level_items tables select number [] chosen = emit_row (selected tables select ch
 level_items tables select number (level ∷ levels) chosen =
     open_level number
     ∷ flat_map
-      (λ row. row_items number
-        (passes tables level.conditions (with_row level chosen row))
-        (level_items tables select (number + 1) levels (with_row level chosen row)))
-      (scan level.access tables level.table chosen)
+    (λ row. row_items number
+    (passes tables level.conditions (with_row level chosen row))
+    (level_items tables select (number + 1) levels (with_row level chosen row)))
+    (scan level.access tables level.table chosen)
 
 -- The whole run. Proofs of those who drive a run never open it.
 unfoldable pub items : Plan → RunData → List RunItem

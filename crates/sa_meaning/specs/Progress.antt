@@ -1,6 +1,5 @@
 -- What a run is of, and how far it has come.
-use Rattle.std.specs.Prelude.{◌≡◌, ℕ, Bool, List, [], ◌∷◌, length, slice_get, IsSomeAnd, ⊤}
-use Rattle.sa_plan.specs.declared.plan.Level.{Level}
+use Rattle.std.specs.Prelude.{◌≡◌, ℕ, Bool, length, slice_get, IsSomeAnd, ⊤}
 use Rattle.sa_plan.specs.declared.plan.Plan.{Plan}
 use Rattle.sa_meaning.specs.Data.{RunData}
 use Rattle.sa_meaning.specs.Items.{RunItem, open_level, read_row, emit_row, items}
