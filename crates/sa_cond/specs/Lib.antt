@@ -1,0 +1,6 @@
+pub mod Choice
+pub mod Expression
+pub mod Condition
+pub mod Interval
+pub mod Typed
+pub mod Cited

@@ -1,0 +1,14 @@
+//! Expressions and conditions over the rows of tables: their trees, what they mean, and how they are
+//! evaluated.
+//!
+//! Three-valued truth follows MariaDB's Knowledge Base, "Comparison Operators", "Logical Operators" and
+//! "NULL Values in MariaDB".
+#![tactic(auto)]
+
+mod cells;
+mod cond;
+mod expr;
+
+pub use cells::{CellKind, Cells, Kinds};
+pub use cond::{Cond, Conds};
+pub use expr::{Expr, Exprs};
