@@ -16,6 +16,10 @@ use Rattle.sa_desk.specs.State.{Terms, Statement, Execution, Phase, idle, plain,
 abbrev pub IsOwn : Terms → Entry → Type 0
 IsOwn terms entry = entry.actor ≡ terms.desk
 
+-- The version of the tables that a statement may read: the first one, as no statement changes them.
+abbrev pub IsVersion : ℕ → Type 0
+IsVersion version = version ≡ 0
+
 -- The actor's request of this number waits, or was served.
 abbrev pub IsQueued : ℕ → ℕ → List Request → Type 0
 IsQueued actor number queue = Any (λ request. (request.asker ≡ actor) × (request.request ≡ number)) queue
@@ -29,7 +33,7 @@ pub record Serves (terms : Terms) (statement : Statement) (execution : Execution
   pub own : IsOwn terms entry
   pub asked : (first.asker ≡ asker) × (first.request ≡ number)
   pub turn : entry.turn ≡ statement.turn + first.at / terms.quantum + 1
-  pub counted : report ≡ counts statement.number execution.plan execution.values report.steps
+  pub counted : report ≡ counts statement.number execution.plan execution.tables report.steps
   pub least : first.at ≤ report.steps
   pub most : report.steps ≤ first.at + terms.quantum
 
@@ -51,9 +55,9 @@ pub record Settles (execution : Execution) (entry : Entry) (steps : ℕ) : Type 
 
 -- The table of entries and phases. Whatever isn't listed never comes.
 abbrev pub ComesIn : Terms → State → Entry → Phase → Event → Type 0
-ComesIn terms state entry idle (Begin number text version plan values) =
-    IsOwn terms entry × (state.doomed ≡ false) × (version ≡ 0) × (IsSome plan ↔ IsSome values)
-ComesIn terms state entry phase (Begin number text version plan values) = ⊥
+ComesIn terms state entry idle (Begin number text version plan tables) =
+    IsOwn terms entry × (state.doomed ≡ false) × IsVersion version × (IsSome plan ↔ IsSome tables)
+ComesIn terms state entry phase (Begin number text version plan tables) = ⊥
 ComesIn terms state entry idle (Gone number) = IsOwn terms entry × (state.doomed ≡ true)
 ComesIn terms state entry phase (Gone number) = ⊥
 -- a request

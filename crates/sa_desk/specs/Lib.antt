@@ -10,6 +10,7 @@ pub mod World
 pub mod Own
 pub mod call
 pub mod law
+pub mod program
 pub mod Desk
 pub mod Plain
 pub mod PlainDesks

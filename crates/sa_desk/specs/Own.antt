@@ -1,8 +1,7 @@
 -- What a session's own entries on a desk say of the desk, without those of others.
-use Rattle.std.specs.Prelude.{◌≡◌, ℕ, ◌⊎◌, List, [], ◌∷◌, Option, Some, None, option_map, All}
-use Rattle.std.specs.Arc.{arc_value}
-use Rattle.sa_value.specs.declared.value.Value.{Value}
+use Rattle.std.specs.Prelude.{◌≡◌, ℕ, ◌⊎◌, List, [], ◌∷◌, Option, Some, None, All}
 use Rattle.sa_plan.specs.declared.plan.Plan.{Plan}
+use Rattle.sa_meaning.specs.Data.{RunData}
 use Rattle.sa_desk.specs.declared.entry.Entry.{Entry}
 use Rattle.sa_desk.specs.declared.entry.Event.{Event}
 use Rattle.sa_desk.specs.declared.entry.Event.TheVariants.{Begin, Queued, Taken, Spent, Withdrawn, End, Close}
@@ -14,23 +13,23 @@ use Rattle.sa_desk.specs.Comes.{IsQueued, IsServed}
 pub data Outline : Type 0 where
   free : Outline
   plainly : (number begin turn : ℕ) → Outline
-  running : (number begin turn : ℕ) (plan : Plan) (values : List Value) → Outline
+  running : (number begin turn : ℕ) (plan : Plan) (tables : RunData) → Outline
   over : Outline
 
 abbrev pub outline : Phase → Outline
 outline idle = free
 outline (plain statement) = plainly statement.number statement.begin statement.turn
-outline (planned statement execution) = running statement.number statement.begin statement.turn execution.plan execution.values
-outline (serving statement execution steps turn) = running statement.number statement.begin statement.turn execution.plan execution.values
+outline (planned statement execution) = running statement.number statement.begin statement.turn execution.plan execution.tables
+outline (serving statement execution steps turn) = running statement.number statement.begin statement.turn execution.plan execution.tables
 outline closed = over
 
--- A statement has just begun, with a plan over values or without.
-abbrev pub opened : ℕ → Entry → Option Plan → Option (List Value) → Outline
-opened number entry (Some plan) (Some values) = running number entry.seq entry.turn plan values
-opened number entry plan values = plainly number entry.seq entry.turn
+-- A statement has just begun, with a plan over tables or without.
+abbrev pub opened : ℕ → Entry → Option Plan → Option RunData → Outline
+opened number entry (Some plan) (Some tables) = running number entry.seq entry.turn plan tables
+opened number entry plan tables = plainly number entry.seq entry.turn
 
 abbrev pub own_event : Outline → Entry → Event → Outline
-own_event was entry (Begin number text version plan values) = opened number entry (option_map arc_value plan) (option_map arc_value values)
+own_event was entry (Begin number text version plan tables) = opened number entry plan tables
 own_event was entry (End number outcome steps) = free
 own_event was entry Close = over
 own_event was entry event = was

@@ -12,7 +12,7 @@ use Rattle.sa_desk.specs.Contents.{Contents, phase, entry_by, later}
 
 -- what the run has counted
 abbrev pub report_of : Progress → Report
-report_of run = counts run.statement run.plan run.values run.steps
+report_of run = counts run.statement run.plan run.data_read run.steps
 
 -- one entry for each request, oldest first, all with the same report
 abbrev pub served_with : Contents → Report → Stamp → List Request → List Entry
@@ -24,10 +24,10 @@ served_with desk report stamp (request ∷ rest) =
 abbrev pub served_entries : Contents → Stamp → Progress → List Entry
 served_entries desk stamp run = served_with desk (report_of run) stamp (queue_of (phase desk))
 
--- The run is of the statement that is on, of its plan and over its values.
+-- The run is of the statement that is on, of its plan and over its tables.
 abbrev pub IsRunOf : Phase → Progress → Type 0
 IsRunOf (planned statement execution) run =
-    (run.statement ≡ statement.number) × (run.plan ≡ execution.plan) × (run.values ≡ execution.values)
+    (run.statement ≡ statement.number) × (run.plan ≡ execution.plan) × (run.data_read ≡ execution.tables)
 IsRunOf phase run = ⊥
 
 -- the turn in which the statement that is on began

@@ -1,8 +1,8 @@
 -- What a desk's journal, read so far, says of its session.
 use Rattle.std.specs.Prelude.{◌≡◌, ◌≢◌, ⊤, ℕ, ◌*◌, ◌<◌, ◌≤◌, ◌⊎◌, Bool, false, List, [], length, Option, None, All}
-use Rattle.sa_value.specs.declared.value.Value.{Value}
 use Rattle.sa_plan.specs.declared.plan.Plan.{Plan}
-use Rattle.sa_meaning.specs.Item.{items}
+use Rattle.sa_meaning.specs.Data.{RunData}
+use Rattle.sa_meaning.specs.Items.{items}
 use Rattle.sa_desk.specs.declared.request.Request.{Request}
 use Rattle.sa_desk.specs.declared.request.Reply.{Reply}
 
@@ -23,9 +23,9 @@ pub record Statement : Type 0 where
 
 -- What other sessions may look into while a statement with a plan is on.
 pub record Execution : Type 0 where
-  -- the plan, and the values that it is run over
+  -- the plan, and the tables that it is run over
   pub plan : Plan
-  pub values : List Value
+  pub tables : RunData
   -- the last number of steps that an entry shows
   pub shown : ℕ
   -- the requests that wait, oldest first
@@ -71,7 +71,7 @@ IsSettled phase = ⊤
 -- last number of all, not below what was shown, and just that while requests wait.
 pub record IsPublished (quantum : ℕ) (execution : Execution) (steps : ℕ) : Type 0 where
   pub whole_turns : (turns : ℕ) × (steps ≡ turns * quantum)
-  pub unfinished : (steps ≡ 0) ⊎ (steps < length (items execution.plan execution.values))
+  pub unfinished : (steps ≡ 0) ⊎ (steps < length (items execution.plan execution.tables))
   pub rising : execution.shown ≤ steps
   pub fixed : execution.queue ≢ [] → steps ≡ execution.shown
 

@@ -45,6 +45,12 @@ impl Model for Desk {
 
     ghost Value = { Contents };
 
+    ghost use Rattle.std.specs.Coded.{codes};
+    ghost use Rattle.sa_cond.specs.contracts.cond.Cond as cond;
+    ghost use Rattle.sa_cond.specs.contracts.expr.Expr as expr;
+
+    ghost coded = { Prim.hlevel (codes, cond.the_row.coded, expr.the_row.coded) };
+
     ghost use Rattle.sa_desk.specs.Desk.{contents_of, IsReady};
 
     ghost view = { contents_of };

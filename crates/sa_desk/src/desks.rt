@@ -1,5 +1,4 @@
 ghost use Rattle.std.specs.Prelude.{◌≡◌, true, [], option_map};
-ghost use Rattle.std.specs.Arc.{arc_value};
 ghost use Rattle.sa_desk.specs.declared.entry.Event.TheVariants.{Begin};
 ghost use Rattle.sa_desk.specs.Contents.{phase, state};
 ghost use Rattle.sa_desk.specs.Serving.{served_entries, is_killed};
@@ -20,9 +19,9 @@ use crate::outcome::Finish;
 use crate::stamp::Caller;
 use sa_ast::{AskKind, KillKind};
 use sa_meaning::Running;
-use sa_plan::Plan;
-use sa_value::{Text, Values};
-use std::sync::Arc;
+use sa_plan::SharedPlan;
+use sa_table::SharedTables;
+use sa_value::Text;
 
 /// A number of desks, which sessions call by their numbers. Each call is one call of the desk that it
 /// names, and none takes memory.
@@ -44,15 +43,15 @@ pub trait Desks {
         statement: u32,
         text: Text,
         version: u64,
-        plan: Option<Arc<Plan>>,
-        values: Option<Arc<Values>>,
+        plan: Option<SharedPlan>,
+        tables: Option<SharedTables>,
     ) -> Begun
         requires allowed { (world self.old).may_call desk me.actor ≡ true }
         requires begin { let old = world self.old in
-            MayBegin (old.contents desk) (next_stamp old me) (Begin statement text version plan values) statement version (option_map arc_value plan) (option_map arc_value values) }
+            MayBegin (old.contents desk) (next_stamp old me) (Begin statement text version plan tables) statement version plan tables }
         ensures answer { result ≡ begin_answer (state ((world self.old).contents desk)).doomed }
         ensures same { keeps self.old self.new }
-        ensures call { let old = world self.old in let at = old.contents desk in let stamp = next_stamp old me in let event = Begin statement text version plan values in
+        ensures call { let old = world self.old in let at = old.contents desk in let stamp = next_stamp old me in let event = Begin statement text version plan tables in
             IsCall old (world self.new) desk me.actor (begin_entries at stamp event statement) (after_begin at stamp event statement) };
 
     /// Publishes how far a run has come and serves who asked, as `Desk::point`.

@@ -13,11 +13,11 @@ use crate::stamp::{Caller, Stamp};
 use arrayvec::ArrayVec;
 use sa_ast::{AskKind, KillKind};
 use sa_meaning::Running;
-use sa_plan::Plan;
-use sa_value::{OutOfMemory, Text, Values};
+use sa_plan::SharedPlan;
+use sa_table::SharedTables;
+use sa_value::{OutOfMemory, Text};
 use std::alloc::Global;
 use std::marker::Model;
-use std::sync::Arc;
 
 /// The desks of all sessions, called on one thread. It counts each session's entries.
 #[derive(Debug, Drop)]
@@ -33,6 +33,12 @@ impl Model for PlainDesks {
     ghost use Rattle.sa_desk.specs.Plain.{Plain};
 
     ghost Value = { Plain };
+
+    ghost use Rattle.std.specs.Coded.{codes};
+    ghost use Rattle.sa_cond.specs.contracts.cond.Cond as cond;
+    ghost use Rattle.sa_cond.specs.contracts.expr.Expr as expr;
+
+    ghost coded = { Prim.hlevel (codes, cond.the_row.coded, expr.the_row.coded) };
 
     ghost use Rattle.sa_desk.specs.PlainDesks.{plain_of, AreReady};
 
@@ -99,13 +105,13 @@ impl Desks for PlainDesks {
         statement: u32,
         text: Text,
         version: u64,
-        plan: Option<Arc<Plan>>,
-        values: Option<Arc<Values>>,
+        plan: Option<SharedPlan>,
+        tables: Option<SharedTables>,
     ) -> Begun {
         let stamp = next_stamp(&self.made, me);
         let at = &mut self.desks[place_of(desk)];
         let before = at.len();
-        let answer = at.begin(stamp, statement, text, version, plan, values);
+        let answer = at.begin(stamp, statement, text, version, plan, tables);
         let entries = at.len() - before;
         count(&mut self.made, me.actor, entries);
         answer

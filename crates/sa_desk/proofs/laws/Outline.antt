@@ -43,7 +43,7 @@ outline-killed (serving s e n turn) = refl
 outline-killed closed = refl
 
 outline-served : (quantum : ℕ) (s : Statement) (e : Execution) (queue : List Request) (steps turn : ℕ)
-    → outline (served quantum s e queue steps turn) ≡ running s.number s.begin s.turn e.plan e.values
+    → outline (served quantum s e queue steps turn) ≡ running s.number s.begin s.turn e.plan e.tables
 outline-served quantum s e [] steps turn = refl
 outline-served quantum s e (first ∷ []) steps turn = refl
 outline-served quantum s e (first ∷ next ∷ rest) steps turn = refl
@@ -58,9 +58,9 @@ outline-serving quantum closed steps turn = refl
 -- the outline after an entry
 outline-after : (terms : Terms) (state : State) (entry : Entry) (event : Event)
     → outline (after_event terms state entry event).phase ≡ own_event (outline state.phase) entry event
-outline-after terms state entry (Begin number text version None values) = refl
+outline-after terms state entry (Begin number text version None tables) = refl
 outline-after terms state entry (Begin number text version (Some plan) None) = refl
-outline-after terms state entry (Begin number text version (Some plan) (Some values)) = refl
+outline-after terms state entry (Begin number text version (Some plan) (Some tables)) = refl
 outline-after terms state entry (Queued number kind at budget) = outline-queued state.phase (record { asker = entry.actor; request = number; at = at })
 outline-after terms state entry (Refused number why) = refl
 outline-after terms state entry (Served asker number report) = outline-serving terms.quantum state.phase report.steps entry.turn
@@ -77,11 +77,11 @@ outline-after terms state entry Close = refl
 -- Others' entries leave it.
 others_leave : (terms : Terms) (state : State) (entry : Entry) (phase : Phase) (event : Event) (was : Outline) → entry.actor ≢ terms.desk
     → ComesIn terms state entry phase event → own_event was entry event ≡ was
-others_leave terms state entry idle (Begin number text version plan values) was other comes = absurd (other comes.0)
-others_leave terms state entry (plain s) (Begin number text version plan values) was other comes = absurd comes
-others_leave terms state entry (planned s e) (Begin number text version plan values) was other comes = absurd comes
-others_leave terms state entry (serving s e n turn) (Begin number text version plan values) was other comes = absurd comes
-others_leave terms state entry closed (Begin number text version plan values) was other comes = absurd comes
+others_leave terms state entry idle (Begin number text version plan tables) was other comes = absurd (other comes.0)
+others_leave terms state entry (plain s) (Begin number text version plan tables) was other comes = absurd comes
+others_leave terms state entry (planned s e) (Begin number text version plan tables) was other comes = absurd comes
+others_leave terms state entry (serving s e n turn) (Begin number text version plan tables) was other comes = absurd comes
+others_leave terms state entry closed (Begin number text version plan tables) was other comes = absurd comes
 others_leave terms state entry idle (End number outcome steps) was other comes = absurd comes
 others_leave terms state entry (plain s) (End number outcome steps) was other comes = absurd (other comes.0.own)
 others_leave terms state entry (planned s e) (End number outcome steps) was other comes = absurd (other comes.0.own)

@@ -13,7 +13,7 @@ use Rattle.sa_desk.proofs.laws.Along.{entry_comes}
 use Rattle.sa_desk.proofs.laws.On.{TellsRun, TellsIn, Tells-run}
 
 shown_first : (terms : Terms) (before : List Entry) (statement : Statement) (execution : Execution) (queue : List Request) (entry : Entry) (asker request : ℕ) (report : Report)
-    → ServesFirst terms statement execution queue entry asker request report → TellsRun terms before statement execution.plan execution.values queue
+    → ServesFirst terms statement execution queue entry asker request report → TellsRun terms before statement execution.plan execution.tables queue
     → IsShown terms before entry asker request report
 shown_first terms before statement execution [] entry asker request report comes tells = absurd comes
 shown_first terms before statement execution (first ∷ rest) entry asker request report comes tells =
@@ -23,9 +23,9 @@ shown_first terms before statement execution (first ∷ rest) entry asker reques
       number = statement.number;
       on = tells.statement_is.on;
       plan = execution.plan;
-      values = execution.values;
+      tables = execution.tables;
       has_plan = tells.has_plan;
-      has_values = tells.has_values;
+      has_tables = tells.has_tables;
       counted = comes.counted;
       at = first.at;
       asked = subst (λ what. IsAsked since asker what first.at) comes.asked.1 (subst (λ who. IsAsked since who first.request first.at) comes.asked.0

@@ -1,10 +1,9 @@
 -- A session's requests at a desk come one after another.
-use Rattle.std.proofs.Common.{◌≡◌, ◌≢◌, ℕ, ◌==◌, Bool, false, if◌then◌else◌, List, [], ◌∷◌, ◌++◌, append-nil, Option, Some, None, option_map, All, inl, inr, refl, sym, subst, ap, ◌∙◌}
+use Rattle.std.proofs.Common.{◌≡◌, ◌≢◌, ℕ, ◌==◌, Bool, false, if◌then◌else◌, List, [], ◌∷◌, ◌++◌, append-nil, Option, Some, None, All, inl, inr, refl, sym, subst, ap, ◌∙◌}
 use Rattle.std.proofs.lemmas.Bool.Decides.{eqb_tells}
 use Rattle.std.proofs.lemmas.List.Elements.{All-cons, All-nil}
-use Rattle.std.specs.Arc.{arc_value}
-use Rattle.sa_value.specs.declared.value.Value.{Value}
 use Rattle.sa_plan.specs.declared.plan.Plan.{Plan}
+use Rattle.sa_meaning.specs.Data.{RunData}
 use Rattle.sa_ast.specs.declared.kind.KillKind.{KillKind}
 use Rattle.sa_count.specs.declared.report.Report.{Report}
 use Rattle.sa_desk.specs.declared.entry.Entry.{Entry}
@@ -252,15 +251,15 @@ module _ (terms : Terms) (session : ℕ) (standing : Standing) (doomed : Bool) (
   on_wait_spent (serving statement execution shown at) number steps turns comes stands = absurd comes
   on_wait_spent phase number steps turns comes stands = stands
 
-  begun_empty : (statement : Statement) (plan : Option Plan) (values : Option (List Value)) → queue_of (begun statement plan values) ≡ []
-  begun_empty statement (Some plan) (Some values) = refl
-  begun_empty statement plan values = refl
+  begun_empty : (statement : Statement) (plan : Option Plan) (tables : Option RunData) → queue_of (begun statement plan tables) ≡ []
+  begun_empty statement (Some plan) (Some tables) = refl
+  begun_empty statement plan tables = refl
 
   led_after : (phase : Phase) (event : Event) → Goal phase event
-  led_after idle (Begin number text version plan values) comes stands =
+  led_after idle (Begin number text version plan tables) comes stands =
       subst (λ waits. Stands session standing waits replies)
-      (sym (begun_empty (record { number = number; begin = seq; turn = turn; killed = false }) (option_map arc_value plan) (option_map arc_value values))) stands
-  led_after phase (Begin number text version plan values) comes stands = absurd comes
+      (sym (begun_empty (record { number = number; begin = seq; turn = turn; killed = false }) plan tables)) stands
+  led_after phase (Begin number text version plan tables) comes stands = absurd comes
   led_after (planned statement execution) (Queued number kind at budget) comes stands =
       on_asks session standing execution.queue replies (record { asker = actor; request = number; at = at }) comes.0 stands
   led_after phase (Queued number kind at budget) comes stands = absurd comes

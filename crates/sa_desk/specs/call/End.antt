@@ -46,7 +46,7 @@ module _ {R : Type 0} (progress : R → Progress) where
   -- the outcome where no kill stands
   abbrev pub outcome_of : Finish R → Outcome
   outcome_of (Plain given) = given
-  outcome_of (Rows names run) = let made = progress run in outcome.Rows names (output made.plan made.values)
+  outcome_of (Rows names run) = let made = progress run in outcome.Rows names (output made.plan made.data_read)
   outcome_of (Analyzed plan run) = outcome.Analyzed plan (report_of (progress run))
   outcome_of (Broken fault run) = stopped fault
 

@@ -14,7 +14,7 @@ next_stamp-stamp-requires-clause-numbers c = omega (arith, numbers_before (plain
 -- what the code takes and leaves, and so what is done
 module _ (c : goal.After-count) where
   abbrev begin : Event
-  begin = Begin c.args.statement c.args.text c.args.version c.args.plan c.args.values
+  begin = Begin c.args.statement c.args.text c.args.version c.args.plan c.args.tables
 
   abbrev calls : Calls (plain_of c.self.inside) c.args.desk c.args.me (λ at stamp. after_begin at stamp begin c.args.statement) c.index_mut-at.result.now c.next_stamp-stamp.result c.begin-answer.new.self c.len-before.result c.len.result
   calls = record {
