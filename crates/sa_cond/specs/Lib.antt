@@ -4,3 +4,5 @@ pub mod Condition
 pub mod Interval
 pub mod Typed
 pub mod Cited
+pub mod Within
+pub mod inner

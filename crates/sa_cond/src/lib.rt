@@ -8,7 +8,10 @@
 mod cells;
 mod cond;
 mod expr;
+mod number;
+mod value;
 
 pub use cells::{CellKind, Cells, Kinds};
 pub use cond::{Cond, Conds};
 pub use expr::{Expr, Exprs};
+pub use value::value_of;
