@@ -18,7 +18,7 @@ use Rattle.sa_cond.specs.Within.{IsIn, IsNullOrIn}
 use Rattle.sa_cond.specs.inner.Small.{small_number}
 use Rattle.sa_cond.proofs.IntervalLemmas.{HasKind, HasKind-interval, InEach, IsOperation, negated_sound, value_has_kind}
 use Rattle.sa_cond.proofs.Forms.{kind-Negate, value-Negate, names-Negate, names-Column, names-Slot}
-use Rattle.sa_cond.proofs.Lists.{All-left, All-right, All-one}
+use Rattle.sa_cond.proofs.Lists.{All-left, All-right, All-one, both_true}
 
 proper_test : (interval : Interval) (b : Bool) → is_proper (if b then number interval else faulty) ≡ true → b ≡ true
 proper_test interval true e = refl
@@ -27,10 +27,6 @@ proper_test interval false e = e
 -- what arithmetic reaches is within the range of BIGINT
 pub within_reached : (interval : Interval) → is_proper (number_within interval) ≡ true → is_within interval ≡ true
 within_reached interval e = proper_test interval (is_within interval) e
-
-both_true : (a b : Bool) → a && b ≡ true → (a ≡ true) × (b ≡ true)
-both_true true b e = (refl, e)
-both_true false b e = cc
 
 le_from_test : (a b : ℤ) → int_le a b ≡ true → a ≤ℤ b
 le_from_test a b e = le_z_yes (subst T (sym e) tt)

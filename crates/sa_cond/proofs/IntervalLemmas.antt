@@ -23,10 +23,17 @@ abbrev pub InIf : Interval → Option ℤ → Type 0
 InIf interval None = ⊤
 InIf interval (Some value) = IsIn interval value
 
+-- a value isn't a text
+abbrev pub IsNoText : Value → Type 0
+IsNoText Null = ⊤
+IsNoText (Int value) = ⊤
+IsNoText (Big value) = ⊤
+IsNoText (Text value) = ⊥
+
 -- a value has a kind
 abbrev pub HasKind : ExprKind → Value → Type 0
 HasKind (number interval) value = IsNullOrIn interval value × (is_within interval ≡ true)
-HasKind sum value = ⊤
+HasKind sum value = IsNoText value
 HasKind text value = number_of value ≡ None
 HasKind null value = value ≡ Null
 HasKind faulty value = ⊤
@@ -66,7 +73,10 @@ HasKind-cell (cells.Number least greatest) (Int value) is =
     HasKind-number_within (record { least = least; greatest = greatest }) (Int value) (record { from = is.0; to = is.1 })
 HasKind-cell (cells.Number least greatest) (Big value) is = absurd is
 HasKind-cell (cells.Number least greatest) (Text value) is = absurd is
-HasKind-cell cells.Sum value is = tt
+HasKind-cell cells.Sum Null is = tt
+HasKind-cell cells.Sum (Int value) is = tt
+HasKind-cell cells.Sum (Big value) is = tt
+HasKind-cell cells.Sum (Text value) is = absurd is
 HasKind-cell cells.Text Null is = refl
 HasKind-cell cells.Text (Int value) is = absurd is
 HasKind-cell cells.Text (Big value) is = absurd is

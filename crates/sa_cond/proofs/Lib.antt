@@ -3,3 +3,7 @@ pub mod Forms
 pub mod IntervalLemmas
 pub mod Lists
 pub mod Arithmetic
+pub mod Comparisons
+pub mod CondForms
+pub mod Testing
+pub mod Truths

@@ -6,12 +6,16 @@
 #![tactic(auto)]
 
 mod cells;
+mod comparison;
 mod cond;
+mod evaluation;
 mod expr;
 mod number;
+mod predicate;
 mod value;
 
 pub use cells::{CellKind, Cells, Kinds};
 pub use cond::{Cond, Conds};
+pub use evaluation::eval;
 pub use expr::{Expr, Exprs};
 pub use value::value_of;
