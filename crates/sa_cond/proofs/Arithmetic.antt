@@ -12,7 +12,7 @@ use Rattle.sa_cond.specs.declared.expr.Expr.TheVariants as node
 use Rattle.sa_cond.specs.Choice.{Choice}
 use Rattle.sa_cond.specs.Cited.{Name, column, slot, expr_names, MeetsName, CanEvaluate}
 use Rattle.sa_cond.specs.Expression.{number_of, number_or_null, both, applied, expr_value}
-use Rattle.sa_cond.specs.Interval.{Interval, CellKinds, ExprKind, number, sum, text, null, faulty, least_bigint, greatest_bigint, is_within, number_within, negated, interval_of, reached, of_both, expr_kind}
+use Rattle.sa_cond.specs.Interval.{Interval, CellKinds, ExprKind, number, sum, text, null, faulty, least_bigint, greatest_bigint, is_bigint, is_within, number_within, negated, interval_of, reached, of_both, expr_kind}
 use Rattle.sa_cond.specs.Typed.{is_proper}
 use Rattle.sa_cond.specs.Within.{IsIn, IsNullOrIn}
 use Rattle.sa_cond.specs.inner.Small.{small_number}
@@ -37,8 +37,10 @@ test_from_le a b is = grind (arith, ints)
 -- the ends of an interval within the range of BIGINT
 pub ends : (interval : Interval) → is_within interval ≡ true → (least_bigint ≤ℤ interval.least) × (interval.greatest ≤ℤ greatest_bigint)
 ends interval e =
-    let tests = both_true (int_le least_bigint interval.least) (int_le interval.greatest greatest_bigint) e in
-    (le_from_test least_bigint interval.least tests.0, le_from_test interval.greatest greatest_bigint tests.1)
+    let tests = both_true (is_bigint interval.least) (is_bigint interval.greatest) e in
+    let least = both_true (int_le least_bigint interval.least) (int_le interval.least greatest_bigint) tests.0 in
+    let greatest = both_true (int_le least_bigint interval.greatest) (int_le interval.greatest greatest_bigint) tests.1 in
+    (le_from_test least_bigint interval.least least.0, le_from_test interval.greatest greatest_bigint greatest.1)
 
 -- a number of the range of BIGINT is one of 64 bits
 pub SFits-bigint : (value : ℤ) → least_bigint ≤ℤ value → value ≤ℤ greatest_bigint → SFits w64 value
@@ -49,7 +51,7 @@ SFits-bigint (negsuc n) low high = record { sfits = omega (arith, ints) }
 pub SFits-within : (interval : Interval) (value : ℤ) → is_within interval ≡ true → IsIn interval value → SFits w64 value
 SFits-within interval value e is = let low_high = ends interval e in SFits-bigint value (omega (arith, ints, low_high.0, is.from)) (omega (arith, ints, low_high.1, is.to))
 
-small_test : (value : ℤ) → least_bigint ≤ℤ value → value ≤ℤ greatest_bigint → (int_le least_bigint value && int_le value greatest_bigint) ≡ true
+pub small_test : (value : ℤ) → least_bigint ≤ℤ value → value ≤ℤ greatest_bigint → is_bigint value ≡ true
 small_test value low high = rw (test_from_le least_bigint value low, test_from_le value greatest_bigint high) refl
 
 -- where arithmetic takes a value, its number is one of 64 bits
@@ -103,7 +105,7 @@ chosen false value a e = cc
 operand_in : (interval : Interval) (a : ℤ) (value : Value) → IsNullOrIn interval value → small_number value ≡ Some a → IsIn interval a
 operand_in interval a Null is e = cc
 operand_in interval a (Int value) is e = let same : value ≡ a = cc in subst (IsIn interval) same is
-operand_in interval a (Big value) is e = subst (IsIn interval) (chosen (int_le least_bigint value && int_le value greatest_bigint) value a e) is
+operand_in interval a (Big value) is e = subst (IsIn interval) (chosen (is_bigint value) value a e) is
 operand_in interval a (Text value) is e = absurd is
 
 -- and it is one of 64 bits

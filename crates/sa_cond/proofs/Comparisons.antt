@@ -1,5 +1,5 @@
 -- Comparisons of values by their numbers of 64 bits, and of values by their kinds.
-use Rattle.std.proofs.Common.{◌≡◌, ℤ, ◌≤ℤ◌, Bool, true, false, Option, Some, None, All, refl, sym, subst, ◌∙◌, ap, cond, if◌then◌else◌, int_le, ◌&&◌}
+use Rattle.std.proofs.Common.{◌≡◌, ℤ, ◌≤ℤ◌, Bool, true, false, Option, Some, None, All, refl, sym, subst, ◌∙◌, ap, cond, if◌then◌else◌}
 use Rattle.std.specs.Prelude.{⊤}
 use Rattle.sa_value.specs.declared.truth.CompareOp.{CompareOp}
 use Rattle.sa_value.specs.declared.truth.CompareOp.TheVariants.{Eq, NullEq, Ne, Lt, Le, Gt, Ge}
@@ -11,7 +11,7 @@ use Rattle.sa_cond.specs.Choice.{Choice}
 use Rattle.sa_cond.specs.Cited.{CanEvaluate, expr_names, MeetsName}
 use Rattle.sa_cond.specs.Condition.{is_null}
 use Rattle.sa_cond.specs.Expression.{number_of, expr_value}
-use Rattle.sa_cond.specs.Interval.{ExprKind, number, sum, text, null, faulty, least_bigint, greatest_bigint, expr_kind}
+use Rattle.sa_cond.specs.Interval.{ExprKind, number, sum, text, null, faulty, is_bigint, expr_kind}
 use Rattle.sa_cond.specs.Typed.{is_proper, can_compare}
 use Rattle.sa_cond.specs.Within.{IsNullOrIn}
 use Rattle.sa_cond.specs.inner.Small.{small_number}
@@ -32,7 +32,7 @@ chosen false value a e = cc
 number_is : (value : Value) (a : ℤ) → small_number value ≡ Some a → IsNumber value a
 number_is Null a e = cc
 number_is (Int value) a e = cc
-number_is (Big value) a e = chosen (int_le least_bigint value && int_le value greatest_bigint) value a e
+number_is (Big value) a e = chosen (is_bigint value) value a e
 number_is (Text value) a e = cc
 
 -- a sum compares as the number that it is

@@ -7,3 +7,5 @@ pub mod Comparisons
 pub mod CondForms
 pub mod Testing
 pub mod Truths
+pub mod EndsLemmas
+pub mod StaticIntervals

@@ -8,14 +8,17 @@
 mod cells;
 mod comparison;
 mod cond;
+mod ends;
 mod evaluation;
 mod expr;
 mod number;
 mod predicate;
+mod static_interval;
 mod value;
 
 pub use cells::{CellKind, Cells, Kinds};
 pub use cond::{Cond, Conds};
 pub use evaluation::eval;
 pub use expr::{Expr, Exprs};
+pub use static_interval::interval;
 pub use value::value_of;

@@ -1,8 +1,9 @@
-ghost use Rattle.std.specs.Prelude.{◌≡◌, All};
+ghost use Rattle.std.specs.Prelude.{◌≡◌, All, if◌then◌else◌};
 ghost use Rattle.sa_value.specs.Value.{value_at};
 ghost use Rattle.sa_cond.specs.Choice.{Choice};
 ghost use Rattle.sa_cond.specs.Cited.{IsThere, CanEvaluate, expr_names};
 ghost use Rattle.sa_cond.specs.Expression.{expr_value};
+ghost use Rattle.sa_cond.specs.Interval.{is_bigint};
 ghost use Rattle.sa_cond.specs.inner.Small.{small_number};
 
 use crate::cells::Cells;
@@ -35,6 +36,13 @@ fn small(value: ValueRef<'_>) -> Option<i64>
     match value {
         ValueRef::Null | ValueRef::Text(_) => None,
         ValueRef::Int(number) => Some(number),
-        ValueRef::Big(number) => i64::try_from(number).ok(),
+        ValueRef::Big(number) => bigint(number),
     }
+}
+
+/// A number, if it is in the range of BIGINT.
+pub(crate) fn bigint(number: i128) -> Option<i64>
+    ensures { result ≡ (if is_bigint number then Some number else None) }
+{
+    i64::try_from(number).ok()
 }
