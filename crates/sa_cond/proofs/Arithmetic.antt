@@ -1,7 +1,7 @@
 -- How the 64-bit number of an expression comes from those of its operands.
 use lib.Signed.{le_z_yes}
 use Rattle.std.proofs.Math.IntN.{+ℤ_idl}
-use Rattle.std.proofs.Common.{◌≡◌, ℕ, ℤ, ◌-ℤ◌, neg_ℤ, ◌≤ℤ◌, Bool, true, false, ◌&&◌, int_le, T, pos, negsuc, if◌then◌else◌, List, ◌++◌, All, Option, Some, None, option_map, refl, sym, subst, ◌∙◌, ap, arith, cond}
+use Rattle.std.proofs.Common.{◌≡◌, ℕ, ℤ, ◌-ℤ◌, neg_ℤ, ◌≤ℤ◌, Bool, true, false, int_le, T, pos, negsuc, if◌then◌else◌, ◌++◌, All, Option, Some, None, option_map, refl, sym, subst, ◌∙◌, ap, arith}
 use Rattle.std.proofs.lemmas.Int.{ints, to_z-of_z}
 use mir.Syntax.{w64}
 use mir.Val.{SFits, to_z, of_z}
@@ -11,8 +11,8 @@ use Rattle.sa_cond.specs.declared.expr.Expr.{Expr}
 use Rattle.sa_cond.specs.declared.expr.Expr.TheVariants as node
 use Rattle.sa_cond.specs.Choice.{Choice}
 use Rattle.sa_cond.specs.Cited.{Name, column, slot, expr_names, MeetsName, CanEvaluate}
-use Rattle.sa_cond.specs.Expression.{number_of, number_or_null, both, applied, expr_value}
-use Rattle.sa_cond.specs.Interval.{Interval, CellKinds, ExprKind, number, sum, text, null, faulty, least_bigint, greatest_bigint, is_bigint, is_within, number_within, negated, interval_of, reached, of_both, expr_kind}
+use Rattle.sa_cond.specs.Expression.{number_of, number_or_null, both, expr_value}
+use Rattle.sa_cond.specs.Interval.{Interval, ExprKind, number, sum, text, null, faulty, least_bigint, greatest_bigint, is_bigint, is_within, number_within, negated, interval_of, reached, of_both, expr_kind}
 use Rattle.sa_cond.specs.Typed.{is_proper}
 use Rattle.sa_cond.specs.Within.{IsIn, IsNullOrIn}
 use Rattle.sa_cond.specs.inner.Small.{small_number}
@@ -238,7 +238,7 @@ pub record Operates (P : Name → Type 0) (choice : Choice) (operation : ℤ →
   pub right_fits : (b : ℤ) → small_number (expr_value choice y) ≡ Some b → SFits w64 b
 
 module _ (make : Expr → Expr → Expr) (operation : ℤ → ℤ → ℤ) (over : Interval → Interval → Interval) (is : IsOperation make operation over) (P : Name → Type 0) (choice : Choice) (whole x y : Expr)
-  (whole_is : whole ≡ make x y) (all : All P (expr_names whole)) (can : CanEvaluate choice whole) where
+    (whole_is : whole ≡ make x y) (all : All P (expr_names whole)) (can : CanEvaluate choice whole) where
   abbrev can_make : CanEvaluate choice (make x y)
   can_make = subst (CanEvaluate choice) whole_is can
 

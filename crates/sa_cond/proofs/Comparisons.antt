@@ -1,6 +1,5 @@
 -- Comparisons of values by their numbers of 64 bits, and of values by their kinds.
-use Rattle.std.proofs.Common.{◌≡◌, ℤ, ◌≤ℤ◌, Bool, true, false, Option, Some, None, All, refl, sym, subst, ◌∙◌, ap, cond, if◌then◌else◌}
-use Rattle.std.specs.Prelude.{⊤}
+use Rattle.std.proofs.Common.{◌≡◌, ℤ, Bool, true, false, Some, None, refl, sym, subst, ◌∙◌, if◌then◌else◌}
 use Rattle.sa_value.specs.declared.truth.CompareOp.{CompareOp}
 use Rattle.sa_value.specs.declared.truth.CompareOp.TheVariants.{Eq, NullEq, Ne, Lt, Le, Gt, Ge}
 use Rattle.sa_value.specs.declared.value.Value.{Value}
@@ -8,7 +7,7 @@ use Rattle.sa_value.specs.declared.value.Value.TheVariants.{Null, Int, Big, Text
 use Rattle.sa_value.specs.Compare.{truth_of, CanCompare}
 use Rattle.sa_cond.specs.declared.expr.Expr.{Expr}
 use Rattle.sa_cond.specs.Choice.{Choice}
-use Rattle.sa_cond.specs.Cited.{CanEvaluate, expr_names, MeetsName}
+use Rattle.sa_cond.specs.Cited.{CanEvaluate}
 use Rattle.sa_cond.specs.Condition.{is_null}
 use Rattle.sa_cond.specs.Expression.{number_of, expr_value}
 use Rattle.sa_cond.specs.Interval.{ExprKind, number, sum, text, null, faulty, is_bigint, expr_kind}

@@ -1,5 +1,5 @@
 -- What the definitions say of a condition of each form, and an induction over the forms.
-use Rattle.std.proofs.Common.{◌≡◌, ℕ, ◌<◌, Bool, true, not, ◌&&◌, List, [], ◌∷◌, ◌++◌, length, get_or, map, flat_map, All, refl, sym, subst, ◌∙◌, ap}
+use Rattle.std.proofs.Common.{◌≡◌, not, ◌&&◌, List, [], ◌++◌, get_or, map, flat_map, All, sym, subst}
 use Rattle.std.specs.List.{list_all}
 use Rattle.std.proofs.lemmas.List.Elements.{All-map}
 use Rattle.sa_value.specs.declared.truth.CompareOp.{CompareOp}
@@ -10,7 +10,7 @@ use Rattle.sa_cond.specs.declared.cond.Cond.{Cond, Cond-F, map-Cond, ind-Cond, r
 use Rattle.sa_cond.specs.declared.cond.Cond.TheVariants as node
 use Rattle.sa_cond.specs.declared.expr.Expr.{Expr}
 use Rattle.sa_cond.specs.Choice.{Choice}
-use Rattle.sa_cond.specs.Cited.{Name, expr_names, cond_names}
+use Rattle.sa_cond.specs.Cited.{expr_names, cond_names}
 use Rattle.sa_cond.specs.Condition.{is_null, all_of, any_of, between, among, holds}
 use Rattle.sa_cond.specs.Expression.{expr_value}
 use Rattle.sa_cond.specs.Interval.{CellKinds, expr_kind}

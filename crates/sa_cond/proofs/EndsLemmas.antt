@@ -1,10 +1,10 @@
 -- The ends of an interval as numbers of 64 bits.
 use mir.Syntax.{w64, w128}
 use mir.Val.{SFits, to_z, of_z}
-use Rattle.std.proofs.Common.{◌≡◌, ℤ, pos, negsuc, ◌*ℤ◌, ◌≤ℤ◌, Bool, true, false, ◌&&◌, if◌then◌else◌, Option, Some, None, option_map, refl, sym, ap, ◌∙◌, arith}
+use Rattle.std.proofs.Common.{◌≡◌, ℤ, pos, negsuc, ◌*ℤ◌, Bool, true, false, ◌&&◌, if◌then◌else◌, Option, Some, None, option_map, sym, ap, ◌∙◌, arith}
 use Rattle.std.proofs.lemmas.Int.{ints, to_z-of_z}
 use Rattle.sa_cond.specs.declared.ends.Ends.{Ends}
-use Rattle.sa_cond.specs.Interval.{Interval, number, faulty, least_bigint, greatest_bigint, is_bigint, is_within, number_within, interval_of}
+use Rattle.sa_cond.specs.Interval.{Interval, number, faulty, is_bigint, number_within, interval_of}
 use Rattle.sa_cond.specs.inner.Ends.{interval_at}
 use Rattle.sa_cond.proofs.Arithmetic.{small_test}
 

@@ -1,10 +1,10 @@
 -- What the definitions say of an expression of each form, and an induction over the forms.
-use Rattle.std.proofs.Common.{◌≡◌, ℕ, ℤ, ◌+ℤ◌, ◌-ℤ◌, ◌*ℤ◌, neg_ℤ, List, [], ◌∷◌, ◌++◌, refl, sym, subst, ◌∙◌, ap, option_map}
+use Rattle.std.proofs.Common.{◌≡◌, ℕ, ◌+ℤ◌, ◌-ℤ◌, ◌*ℤ◌, neg_ℤ, [], ◌∷◌, ◌++◌, sym, subst, option_map}
 use Rattle.sa_value.specs.declared.value.Value.{Value}
 use Rattle.sa_cond.specs.declared.expr.Expr.{Expr, Expr-F, map-Expr, ind-Expr, roll-Expr, the_lemmas}
 use Rattle.sa_cond.specs.declared.expr.Expr.TheVariants as node
 use Rattle.sa_cond.specs.Choice.{Choice}
-use Rattle.sa_cond.specs.Cited.{Name, column, slot, expr_names}
+use Rattle.sa_cond.specs.Cited.{column, slot, expr_names}
 use Rattle.sa_cond.specs.Expression.{number_of, number_or_null, applied, expr_value}
 use Rattle.sa_cond.specs.Interval.{CellKinds, negated, added, subtracted, multiplied, interval_of, reached, of_both, kind_of_cell, kind_of_literal, expr_kind}
 

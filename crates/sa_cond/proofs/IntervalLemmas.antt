@@ -1,5 +1,5 @@
 -- What the kind of an expression says of its value.
-use Rattle.std.proofs.Common.{◌≡◌, ℕ, ℤ, ◌+ℤ◌, ◌-ℤ◌, ◌*ℤ◌, neg_ℤ, ◌≤ℤ◌, Bool, true, false, ◌&&◌, int_le, List, [], ◌∷◌, ◌++◌, All, Option, Some, None, option_map, refl, sym, subst, ◌∙◌, ap, arith, if◌then◌else◌}
+use Rattle.std.proofs.Common.{◌≡◌, ℤ, ◌+ℤ◌, ◌-ℤ◌, ◌*ℤ◌, neg_ℤ, Bool, true, false, List, ◌++◌, All, Option, Some, None, option_map, refl, sym, subst, arith, if◌then◌else◌}
 use Rattle.std.proofs.lemmas.Int.{ints}
 use Rattle.std.specs.Prelude.{⊤}
 use Rattle.sa_value.specs.declared.value.Value.{Value}
@@ -14,7 +14,7 @@ use Rattle.sa_cond.specs.Expression.{number_of, number_or_null, both, applied, e
 use Rattle.sa_cond.specs.Interval.{Interval, CellKinds, ExprKind, number, sum, text, null, faulty, is_within, number_within, negated, added, subtracted, multiplied, interval_of, reached, of_both, kind_of_cell, kind_of_literal, expr_kind}
 use Rattle.sa_cond.specs.Typed.{MeetsKind}
 use Rattle.sa_cond.specs.Within.{IsIn, IsNullOrIn}
-use Rattle.sa_cond.proofs.Forms.{Cases, by_forms, value-Column, value-Slot, value-Literal, value-Negate, value-Add, value-Subtract, value-Multiply, kind-Column, kind-Slot, kind-Literal, kind-Negate, kind-Add, kind-Subtract, kind-Multiply, names-Column, names-Slot, names-Literal, names-Negate, names-Add, names-Subtract, names-Multiply}
+use Rattle.sa_cond.proofs.Forms.{by_forms, value-Column, value-Slot, value-Literal, value-Negate, value-Add, value-Subtract, value-Multiply, kind-Column, kind-Slot, kind-Literal, kind-Negate, kind-Add, kind-Subtract, kind-Multiply, names-Column, names-Slot, names-Literal, names-Negate, names-Add, names-Subtract, names-Multiply}
 use Rattle.sa_cond.proofs.Lists.{All-left, All-right, All-one}
 use Rattle.sa_cond.proofs.Products.{product_low, product_high}
 
@@ -93,8 +93,6 @@ HasKind-literal (Text value) = refl
 
 -- an operation on numbers of two intervals gives a number of a third
 
-
-
 module _ (operation : ℤ → ℤ → ℤ) (over : Interval → Interval → Interval) (sound : (x y : Interval) (a b : ℤ) → IsIn x a → IsIn y b → IsIn (over x y) (operation a b)) where
   both_in : (x y : Interval) (a b : Option ℤ) → InIf x a → InIf y b → InIf (over x y) (both operation a b)
   both_in x y None b left right = tt
@@ -168,8 +166,8 @@ module _ (kinds : CellKinds) (choice : Choice) where
     held_operation x y left right =
         held (make x y) _ _ _ (is.kind kinds x y) (is.value choice x y) (is.names x y)
         (λ met. HasKind-applied operation over is.sound (interval_of (expr_kind kinds x)) (interval_of (expr_kind kinds y)) (expr_value choice x) (expr_value choice y)
-            (HasKind-interval (expr_kind kinds x) (expr_value choice x) (left (All-left (MeetsName kinds choice) (expr_names x) (expr_names y) met)))
-            (HasKind-interval (expr_kind kinds y) (expr_value choice y) (right (All-right (MeetsName kinds choice) (expr_names x) (expr_names y) met))))
+        (HasKind-interval (expr_kind kinds x) (expr_value choice x) (left (All-left (MeetsName kinds choice) (expr_names x) (expr_names y) met)))
+        (HasKind-interval (expr_kind kinds y) (expr_value choice y) (right (All-right (MeetsName kinds choice) (expr_names x) (expr_names y) met))))
 
   held_negation : (x : Expr) → Held x → Held (node.Negate x)
   held_negation x is =

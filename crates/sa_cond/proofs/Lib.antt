@@ -9,3 +9,4 @@ pub mod Testing
 pub mod Truths
 pub mod EndsLemmas
 pub mod StaticIntervals
+pub mod Deciding

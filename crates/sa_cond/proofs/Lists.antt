@@ -1,7 +1,7 @@
 -- What holds of all members of two lists that are joined holds of those of each.
 use Rattle.std.proofs.Common.{◌≡◌, ◌+◌, Bool, true, ◌&&◌, List, ◌∷◌, [], ◌++◌, length, map, flat_map, All, refl, subst, arith, length-append}
 use Rattle.std.specs.List.{list_all}
-use Rattle.std.proofs.lemmas.List.Elements.{All-nil, All-cons, All-head, All-tail}
+use Rattle.std.proofs.lemmas.List.Elements.{All-nil, All-cons}
 use Rattle.std.proofs.Common.{false}
 use Rattle.std.proofs.lemmas.List.{get_or_append_left, get_or-append-add}
 

@@ -1,18 +1,16 @@
 -- The static interval of an expression out of those of its operands.
-use Rattle.std.proofs.Common.{◌≡◌, ℤ, List, ◌++◌, All, Option, Some, None, option_map, refl, sym, subst, ap, ◌∙◌}
-use Rattle.sa_cond.specs.declared.ends.Ends.{Ends}
+use Rattle.std.proofs.Common.{◌≡◌, ℤ, ◌++◌, All, Option, Some, None, option_map, refl, sym, subst, ap, ◌∙◌}
 use Rattle.sa_cond.specs.declared.expr.Expr.{Expr}
 use Rattle.sa_cond.specs.declared.expr.Expr.TheVariants as node
 use Rattle.sa_cond.specs.Cited.{Name, expr_names}
-use Rattle.sa_cond.specs.Interval.{Interval, CellKinds, number_within, negated, interval_of, reached, of_both, expr_kind, static_interval}
-use Rattle.sa_cond.specs.inner.Ends.{interval_at}
+use Rattle.sa_cond.specs.Interval.{Interval, CellKinds, number_within, negated, interval_of, reached, of_both, static_interval}
 use Rattle.sa_cond.proofs.Forms.{kind-Negate, names-Negate}
 use Rattle.sa_cond.proofs.IntervalLemmas.{IsOperation}
 use Rattle.sa_cond.proofs.Lists.{All-left, All-right}
 
 -- what holds of the names of an operation holds of those of its operands
 module _ (P : Name → Type 0) (make : Expr → Expr → Expr) (operation : ℤ → ℤ → ℤ) (over : Interval → Interval → Interval) (is : IsOperation make operation over) (whole x y : Expr)
-  (whole_is : whole ≡ make x y) (all : All P (expr_names whole)) where
+    (whole_is : whole ≡ make x y) (all : All P (expr_names whole)) where
   names : All P (expr_names x ++ expr_names y)
   names = subst (λ names. All P names) (ap expr_names whole_is ∙ is.names x y) all
 

@@ -1,5 +1,5 @@
 -- What can be tested has parts that can.
-use Rattle.std.proofs.Common.{◌≡◌, ℕ, ◌<◌, Bool, true, ◌&&◌, List, ◌++◌, length, get_or, map, flat_map, All, refl, sym, subst, ◌∙◌, ap}
+use Rattle.std.proofs.Common.{◌≡◌, Bool, true, List, ◌++◌, flat_map, All, sym, subst, ◌∙◌, ap}
 use Rattle.std.specs.List.{list_all}
 use Rattle.sa_value.specs.declared.truth.CompareOp.{CompareOp}
 use Rattle.sa_cond.specs.declared.cond.Cond.{Cond}
@@ -7,7 +7,7 @@ use Rattle.sa_cond.specs.declared.cond.Cond.TheVariants as node
 use Rattle.sa_cond.specs.declared.expr.Expr.{Expr}
 use Rattle.sa_cond.specs.Choice.{Choice}
 use Rattle.sa_cond.specs.Cited.{Name, expr_names, cond_names, MeetsName, CanEvaluate, CanTest}
-use Rattle.sa_cond.specs.Interval.{CellKinds, expr_kind}
+use Rattle.sa_cond.specs.Interval.{expr_kind}
 use Rattle.sa_cond.specs.Typed.{is_proper, can_compare, is_well_typed}
 use Rattle.sa_cond.specs.inner.Compared.{CanRelate}
 use Rattle.sa_cond.proofs.CondForms.{names-Compare, names-IsNull, names-NotNull, names-Between, names-Among, names-And, names-Or, names-Not, typed-Compare, typed-IsNull, typed-NotNull, typed-Between, typed-Among, typed-And, typed-Or, typed-Not}

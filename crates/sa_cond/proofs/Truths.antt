@@ -1,5 +1,5 @@
 -- AND and OR over lists, as a loop computes them.
-use Rattle.std.proofs.Common.{◌≡◌, ℕ, ◌+◌, ◌<◌, List, ◌++◌, length, get_or, take, drop, map, fold, refl, sym, ap, ◌∙◌}
+use Rattle.std.proofs.Common.{◌≡◌, ℕ, ◌+◌, ◌<◌, List, length, get_or, take, drop, map, fold, refl, sym, ap, ◌∙◌}
 use Rattle.std.proofs.lemmas.List.{take-append-drop}
 use Rattle.std.proofs.lemmas.List.Sums.{fold_more, fold-append}
 use Rattle.std.proofs.lemmas.List.Folds.{fold-map, fold_stays}
@@ -16,10 +16,14 @@ module _ {A : Type 0} (f : Truth → A → Truth) (start : Truth) (xs : List A) 
   further = fold_more f start xs i item within ∙ ap (f (fold f start (take i xs))) (sym is)
 
   -- what a member decides is decided
-  pub decided : (z : Truth) → ((x : A) → f z x ≡ z) → f (fold f start (take i xs)) item ≡ z → fold f start xs ≡ z
-  decided z stays here =
+  pub decided : (result z : Truth) → ((x : A) → f z x ≡ z) → result ≡ f (fold f start (take i xs)) item → result ≡ z → fold f start xs ≡ z
+  decided result z stays next told =
       ap (fold f start) (sym (take-append-drop (i + 1) xs)) ∙ fold-append f start (take (i + 1) xs) (drop (i + 1) xs)
-      ∙ ap (λ truth. fold f truth (drop (i + 1) xs)) (further ∙ here) ∙ fold_stays f z stays (drop (i + 1) xs)
+      ∙ ap (λ truth. fold f truth (drop (i + 1) xs)) (further ∙ sym next ∙ told) ∙ fold_stays f z stays (drop (i + 1) xs)
+
+-- what two truths give, in other words for them
+pub in_terms_of : (operation : Truth → Truth → Truth) (result a b a' b' : Truth) → result ≡ operation a b → a ≡ a' → b ≡ b' → result ≡ operation a' b'
+in_terms_of operation result a b a' b' is left right = is ∙ ap (λ a. operation a b) left ∙ ap (operation a') right
 
 pub conjunction-False : (truth : Truth) → conjunction False truth ≡ False
 conjunction-False False = refl

@@ -5,4 +5,5 @@ pub mod Interval
 pub mod Typed
 pub mod Cited
 pub mod Within
+pub mod Agree
 pub mod inner

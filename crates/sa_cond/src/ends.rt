@@ -41,8 +41,14 @@ impl Ends {
         ensures { option_map interval_at result ≡ interval_of (kind_of_literal value.now) }
     {
         match value {
-            Value::Null => Some(Ends { least: 0, greatest: 0 }),
-            Value::Int(number) => Some(Ends { least: *number, greatest: *number }),
+            Value::Null => Some(Ends {
+                least: 0,
+                greatest: 0,
+            }),
+            Value::Int(number) => Some(Ends {
+                least: *number,
+                greatest: *number,
+            }),
             Value::Big(number) => Ends::within(*number, *number),
             Value::Text(_) => None,
         }

@@ -16,7 +16,7 @@ pub fn interval<K: Kinds>(expr: &Expr, kinds: &K) -> Option<(i128, i128)>
     requires there { All (IsThere (K.has_column kinds.now) (K.has_slot kinds.now)) (expr_names expr.now) }
     ensures exact { result ≡ option_map (λ interval. (interval.least, interval.greatest))
         (static_interval (record { column = K.column_kind kinds.now; slot = K.slot_kind kinds.now })
-            expr.now) }
+        expr.now) }
 {
     let Ends { least, greatest } = ends(expr, kinds)?;
     Some((i128::from(least), i128::from(greatest)))
@@ -27,7 +27,7 @@ fn ends<K: Kinds>(expr: &Expr, kinds: &K) -> Option<Ends>
     requires there { All (IsThere (K.has_column kinds.now) (K.has_slot kinds.now)) (expr_names expr.now) }
     ensures { option_map interval_at result
         ≡ static_interval (record { column = K.column_kind kinds.now; slot = K.slot_kind kinds.now })
-            expr.now }
+        expr.now }
 {
     match expr {
         Expr::Column { table, column } => Ends::of_cell(kinds.column(*table, *column)),
@@ -35,7 +35,13 @@ fn ends<K: Kinds>(expr: &Expr, kinds: &K) -> Option<Ends>
         Expr::Literal(value) => Ends::of_literal(value),
         Expr::Negate(x) => ends(x.get(), kinds)?.negated(),
         Expr::Add(left, right) => ends(left.get(), kinds)?.added(ends(right.get(), kinds)?),
-        Expr::Subtract(left, right) => ends(left.get(), kinds)?.subtracted(ends(right.get(), kinds)?),
-        Expr::Multiply(left, right) => ends(left.get(), kinds)?.multiplied(ends(right.get(), kinds)?),
+        Expr::Subtract(left, right) => ends(left.get(), kinds)?.subtracted(ends(
+            right.get(),
+            kinds,
+        )?),
+        Expr::Multiply(left, right) => ends(left.get(), kinds)?.multiplied(ends(
+            right.get(),
+            kinds,
+        )?),
     }
 }

@@ -1,16 +1,15 @@
 use denote.Enum.Bare.{same_true}
 use Rattle.sa_value.specs.contracts.truth.Truth.{the_type}
-use Rattle.std.proofs.Common.{◌≡◌, ℕ, ◌<◌, All, length, take, fold, sym, subst, ap, ◌∙◌, rules, arith}
-use Rattle.sa_value.specs.declared.truth.Truth.{Truth}
+use Rattle.std.proofs.Common.{◌≡◌, ◌<◌, All, length, take, fold, sym, subst, ◌∙◌, rules, arith}
 use Rattle.sa_value.specs.declared.truth.Truth.TheVariants.{False, True}
 use Rattle.sa_value.specs.Logic.{conjunction, disjunction}
-use Rattle.sa_cond.specs.declared.cond.Cond.{Cond, the_lemmas}
+use Rattle.sa_cond.specs.declared.cond.Cond.{the_lemmas}
 use Rattle.sa_cond.specs.Choice.{Choice}
 use Rattle.sa_cond.specs.Cited.{Name, IsThere, CanTest, cond_names, expr_names}
 use Rattle.sa_cond.specs.Condition.{holds}
 use Rattle.sa_cond.specs.inner.Compared.{CanRelate}
-use Rattle.sa_cond.proofs.Testing.{Relates, relates, relates_low, relates_high, is_null_names, is_null_can, not_null_names, not_null_can, value_names, member_names, member_can, and_names, and_can, or_names, or_can, not_names, not_can}
-use Rattle.sa_cond.proofs.Truths.{and_next, or_next, further, decided, conjunction-False, disjunction-True, all_of-map, any_of-map}
+use Rattle.sa_cond.proofs.Testing.{relates, relates_low, relates_high, is_null_names, is_null_can, not_null_names, not_null_can, value_names, member_names, member_can, and_names, and_can, or_names, or_can}
+use Rattle.sa_cond.proofs.Truths.{in_terms_of, and_next, or_next, further, decided, conjunction-False, disjunction-True, all_of-map, any_of-map}
 use Rattle.sa_cond.proofs.evaluation.+eval.Goals as goal
 
 pub eval-compared-requires-clause-left_there : goal.eval-compared-requires-clause-left_there
@@ -121,10 +120,11 @@ all_of-returns-then-eq g t c =
     let choice : Choice = record { cell = g.R.Cells.cell_of c.args.rows.now; slot = g.R.Cells.slot_of c.args.rows.now } in
     let within : c.loop-member.member-index < length c.args.members.now = omega arith in
     let next : c.and-truth.result ≡ conjunction (fold (and_next (holds choice)) True (take c.loop-member.member-index c.args.members.now)) (holds choice c.member-item.result) =
-        c.and-truth.ensures ∙ ap (λ truth. conjunction truth c.eval.result) c.loop-member.invariant ∙ ap (conjunction (fold (and_next (holds choice)) True (take c.loop-member.member-index c.args.members.now))) c.eval.ensures in
+    in_terms_of conjunction c.and-truth.result c.loop-member.truth c.eval.result (fold (and_next (holds choice)) True (take c.loop-member.member-index c.args.members.now)) (holds choice c.member-item.result)
+    c.and-truth.ensures c.loop-member.invariant c.eval.ensures in
     let told : c.and-truth.result ≡ False = same_true the_type (search rules) _ _ (sym c.if-eq.ensures) in
     sym (all_of-map (holds choice) c.args.members.now
-    ∙ decided (and_next (holds choice)) True c.args.members.now c.loop-member.member-index c.member-item.result within c.member-item.is False (λ member. conjunction-False (holds choice member)) (sym next ∙ told))
+    ∙ decided (and_next (holds choice)) True c.args.members.now c.loop-member.member-index c.member-item.result within c.member-item.is c.and-truth.result False (λ member. conjunction-False (holds choice member)) next told)
 
 pub all_of-loop-member-preserved : goal.all_of-loop-member-preserved
 all_of-loop-member-preserved g t c =
@@ -132,7 +132,8 @@ all_of-loop-member-preserved g t c =
     let choice : Choice = record { cell = g.R.Cells.cell_of c.args.rows.now; slot = g.R.Cells.slot_of c.args.rows.now } in
     let within : c.loop-member.member-index < length c.args.members.now = omega arith in
     let next : c.and-truth.result ≡ conjunction (fold (and_next (holds choice)) True (take c.loop-member.member-index c.args.members.now)) (holds choice c.member-item.result) =
-        c.and-truth.ensures ∙ ap (λ truth. conjunction truth c.eval.result) c.loop-member.invariant ∙ ap (conjunction (fold (and_next (holds choice)) True (take c.loop-member.member-index c.args.members.now))) c.eval.ensures in
+    in_terms_of conjunction c.and-truth.result c.loop-member.truth c.eval.result (fold (and_next (holds choice)) True (take c.loop-member.member-index c.args.members.now)) (holds choice c.member-item.result)
+    c.and-truth.ensures c.loop-member.invariant c.eval.ensures in
     next ∙ sym (further (and_next (holds choice)) True c.args.members.now c.loop-member.member-index c.member-item.result within c.member-item.is)
 
 pub any_of-returns-then-eq : goal.any_of-returns-then-eq
@@ -141,10 +142,11 @@ any_of-returns-then-eq g t c =
     let choice : Choice = record { cell = g.R.Cells.cell_of c.args.rows.now; slot = g.R.Cells.slot_of c.args.rows.now } in
     let within : c.loop-member.member-index < length c.args.members.now = omega arith in
     let next : c.or-truth.result ≡ disjunction (fold (or_next (holds choice)) False (take c.loop-member.member-index c.args.members.now)) (holds choice c.member-item.result) =
-        c.or-truth.ensures ∙ ap (λ truth. disjunction truth c.eval.result) c.loop-member.invariant ∙ ap (disjunction (fold (or_next (holds choice)) False (take c.loop-member.member-index c.args.members.now))) c.eval.ensures in
+    in_terms_of disjunction c.or-truth.result c.loop-member.truth c.eval.result (fold (or_next (holds choice)) False (take c.loop-member.member-index c.args.members.now)) (holds choice c.member-item.result)
+    c.or-truth.ensures c.loop-member.invariant c.eval.ensures in
     let told : c.or-truth.result ≡ True = same_true the_type (search rules) _ _ (sym c.if-eq.ensures) in
     sym (any_of-map (holds choice) c.args.members.now
-    ∙ decided (or_next (holds choice)) False c.args.members.now c.loop-member.member-index c.member-item.result within c.member-item.is True (λ member. disjunction-True (holds choice member)) (sym next ∙ told))
+    ∙ decided (or_next (holds choice)) False c.args.members.now c.loop-member.member-index c.member-item.result within c.member-item.is c.or-truth.result True (λ member. disjunction-True (holds choice member)) next told)
 
 pub any_of-loop-member-preserved : goal.any_of-loop-member-preserved
 any_of-loop-member-preserved g t c =
@@ -152,5 +154,6 @@ any_of-loop-member-preserved g t c =
     let choice : Choice = record { cell = g.R.Cells.cell_of c.args.rows.now; slot = g.R.Cells.slot_of c.args.rows.now } in
     let within : c.loop-member.member-index < length c.args.members.now = omega arith in
     let next : c.or-truth.result ≡ disjunction (fold (or_next (holds choice)) False (take c.loop-member.member-index c.args.members.now)) (holds choice c.member-item.result) =
-        c.or-truth.ensures ∙ ap (λ truth. disjunction truth c.eval.result) c.loop-member.invariant ∙ ap (disjunction (fold (or_next (holds choice)) False (take c.loop-member.member-index c.args.members.now))) c.eval.ensures in
+    in_terms_of disjunction c.or-truth.result c.loop-member.truth c.eval.result (fold (or_next (holds choice)) False (take c.loop-member.member-index c.args.members.now)) (holds choice c.member-item.result)
+    c.or-truth.ensures c.loop-member.invariant c.eval.ensures in
     next ∙ sym (further (or_next (holds choice)) False c.args.members.now c.loop-member.member-index c.member-item.result within c.member-item.is)

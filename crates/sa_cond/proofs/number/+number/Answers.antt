@@ -1,5 +1,5 @@
-use Rattle.std.proofs.Common.{◌≡◌, ◌+ℤ◌, ◌-ℤ◌, ◌*ℤ◌, All, sym, subst, ◌∙◌, rules}
-use Rattle.sa_cond.specs.declared.expr.Expr.{Expr, the_lemmas}
+use Rattle.std.proofs.Common.{◌+ℤ◌, ◌-ℤ◌, ◌*ℤ◌, All, sym, subst, rules}
+use Rattle.sa_cond.specs.declared.expr.Expr.{the_lemmas}
 use Rattle.sa_cond.specs.declared.expr.Expr.TheVariants as node
 use Rattle.sa_cond.specs.Choice.{Choice}
 use Rattle.sa_cond.specs.Cited.{Name, IsThere, CanEvaluate, expr_names}
@@ -50,7 +50,7 @@ number-requires-in-Add g t c κs within =
     let there : Name → Type 0 = IsThere (g.R.Cells.has_cell c.args.rows.now) (g.R.Cells.has_slot c.args.rows.now) in
     let choice : Choice = record { cell = g.R.Cells.cell_of c.args.rows.now; slot = g.R.Cells.slot_of c.args.rows.now } in
     let at : Operates there choice (λ x y. x +ℤ y) c.args.expr.now c.in-Add.left c.in-Add.right =
-        operates node.Add (λ x y. x +ℤ y) added is_addition there choice c.args.expr.now c.in-Add.left c.in-Add.right c.in-Add.is c.requires.there c.requires.typed in
+    operates node.Add (λ x y. x +ℤ y) added is_addition there choice c.args.expr.now c.in-Add.left c.in-Add.right c.in-Add.is c.requires.there c.requires.typed in
     (search (rules, the_lemmas), (search rules, (subst (λ expr. All there (expr_names expr)) (sym c.get-in-Add.ensures) at.left_names, subst (CanEvaluate choice) (sym c.get-in-Add.ensures) at.left_can)))
 
 pub returns-in_err-number-in-Add : goal.returns-in_err-number-in-Add
@@ -58,7 +58,7 @@ returns-in_err-number-in-Add g t c =
     let there : Name → Type 0 = IsThere (g.R.Cells.has_cell c.args.rows.now) (g.R.Cells.has_slot c.args.rows.now) in
     let choice : Choice = record { cell = g.R.Cells.cell_of c.args.rows.now; slot = g.R.Cells.slot_of c.args.rows.now } in
     let at : Operates there choice (λ x y. x +ℤ y) c.args.expr.now c.in-Add.left c.in-Add.right =
-        operates node.Add (λ x y. x +ℤ y) added is_addition there choice c.args.expr.now c.in-Add.left c.in-Add.right c.in-Add.is c.requires.there c.requires.typed in
+    operates node.Add (λ x y. x +ℤ y) added is_addition there choice c.args.expr.now c.in-Add.left c.in-Add.right c.in-Add.is c.requires.there c.requires.typed in
     let none = answer-none_left there choice (λ x y. x +ℤ y) c.args.expr.now c.in-Add.left c.in-Add.right c.get-in-Add.result.now at c.get-in-Add.ensures c.in_err-number-in-Add.ensures in
     cc
 
@@ -67,7 +67,7 @@ number-requires-in-Add-2 g t c κs within =
     let there : Name → Type 0 = IsThere (g.R.Cells.has_cell c.args.rows.now) (g.R.Cells.has_slot c.args.rows.now) in
     let choice : Choice = record { cell = g.R.Cells.cell_of c.args.rows.now; slot = g.R.Cells.slot_of c.args.rows.now } in
     let at : Operates there choice (λ x y. x +ℤ y) c.args.expr.now c.in-Add.left c.in-Add.right =
-        operates node.Add (λ x y. x +ℤ y) added is_addition there choice c.args.expr.now c.in-Add.left c.in-Add.right c.in-Add.is c.requires.there c.requires.typed in
+    operates node.Add (λ x y. x +ℤ y) added is_addition there choice c.args.expr.now c.in-Add.left c.in-Add.right c.in-Add.is c.requires.there c.requires.typed in
     (search (rules, the_lemmas), (search rules, (subst (λ expr. All there (expr_names expr)) (sym c.get-in-Add-2.ensures) at.right_names, subst (CanEvaluate choice) (sym c.get-in-Add-2.ensures) at.right_can)))
 
 pub returns-in_err-number-in-Add-2 : goal.returns-in_err-number-in-Add-2
@@ -75,7 +75,7 @@ returns-in_err-number-in-Add-2 g t c =
     let there : Name → Type 0 = IsThere (g.R.Cells.has_cell c.args.rows.now) (g.R.Cells.has_slot c.args.rows.now) in
     let choice : Choice = record { cell = g.R.Cells.cell_of c.args.rows.now; slot = g.R.Cells.slot_of c.args.rows.now } in
     let at : Operates there choice (λ x y. x +ℤ y) c.args.expr.now c.in-Add.left c.in-Add.right =
-        operates node.Add (λ x y. x +ℤ y) added is_addition there choice c.args.expr.now c.in-Add.left c.in-Add.right c.in-Add.is c.requires.there c.requires.typed in
+    operates node.Add (λ x y. x +ℤ y) added is_addition there choice c.args.expr.now c.in-Add.left c.in-Add.right c.in-Add.is c.requires.there c.requires.typed in
     let none = answer-none there choice (λ x y. x +ℤ y) c.args.expr.now c.in-Add.left c.in-Add.right c.get-in-Add.result.now c.get-in-Add-2.result.now at c.get-in-Add.ensures c.get-in-Add-2.ensures c.in_err-number-in-Add-2.ensures in
     cc
 
@@ -84,7 +84,7 @@ overflow_add-result g t c =
     let there : Name → Type 0 = IsThere (g.R.Cells.has_cell c.args.rows.now) (g.R.Cells.has_slot c.args.rows.now) in
     let choice : Choice = record { cell = g.R.Cells.cell_of c.args.rows.now; slot = g.R.Cells.slot_of c.args.rows.now } in
     let at : Operates there choice (λ x y. x +ℤ y) c.args.expr.now c.in-Add.left c.in-Add.right =
-        operates node.Add (λ x y. x +ℤ y) added is_addition there choice c.args.expr.now c.in-Add.left c.in-Add.right c.in-Add.is c.requires.there c.requires.typed in
+    operates node.Add (λ x y. x +ℤ y) added is_addition there choice c.args.expr.now c.in-Add.left c.in-Add.right c.in-Add.is c.requires.there c.requires.typed in
     SFits-some there choice (λ x y. x +ℤ y) c.args.expr.now c.in-Add.left c.in-Add.right c.get-in-Add.result.now c.get-in-Add-2.result.now at c.get-in-Add.ensures c.get-in-Add-2.ensures c.in_ok-number-in-Add.field-0 c.in_ok-number-in-Add-2.field-0 c.in_ok-number-in-Add.ensures c.in_ok-number-in-Add-2.ensures
 
 pub returns-in_ok-number-in-Add-2 : goal.returns-in_ok-number-in-Add-2
@@ -92,7 +92,7 @@ returns-in_ok-number-in-Add-2 g t c =
     let there : Name → Type 0 = IsThere (g.R.Cells.has_cell c.args.rows.now) (g.R.Cells.has_slot c.args.rows.now) in
     let choice : Choice = record { cell = g.R.Cells.cell_of c.args.rows.now; slot = g.R.Cells.slot_of c.args.rows.now } in
     let at : Operates there choice (λ x y. x +ℤ y) c.args.expr.now c.in-Add.left c.in-Add.right =
-        operates node.Add (λ x y. x +ℤ y) added is_addition there choice c.args.expr.now c.in-Add.left c.in-Add.right c.in-Add.is c.requires.there c.requires.typed in
+    operates node.Add (λ x y. x +ℤ y) added is_addition there choice c.args.expr.now c.in-Add.left c.in-Add.right c.in-Add.is c.requires.there c.requires.typed in
     answer-some there choice (λ x y. x +ℤ y) c.args.expr.now c.in-Add.left c.in-Add.right c.get-in-Add.result.now c.get-in-Add-2.result.now at c.get-in-Add.ensures c.get-in-Add-2.ensures c.in_ok-number-in-Add.field-0 c.in_ok-number-in-Add-2.field-0 c.in_ok-number-in-Add.ensures c.in_ok-number-in-Add-2.ensures
 
 pub number-requires-in-Subtract : goal.number-requires-in-Subtract
@@ -100,7 +100,7 @@ number-requires-in-Subtract g t c κs within =
     let there : Name → Type 0 = IsThere (g.R.Cells.has_cell c.args.rows.now) (g.R.Cells.has_slot c.args.rows.now) in
     let choice : Choice = record { cell = g.R.Cells.cell_of c.args.rows.now; slot = g.R.Cells.slot_of c.args.rows.now } in
     let at : Operates there choice (λ x y. x -ℤ y) c.args.expr.now c.in-Subtract.left c.in-Subtract.right =
-        operates node.Subtract (λ x y. x -ℤ y) subtracted is_subtraction there choice c.args.expr.now c.in-Subtract.left c.in-Subtract.right c.in-Subtract.is c.requires.there c.requires.typed in
+    operates node.Subtract (λ x y. x -ℤ y) subtracted is_subtraction there choice c.args.expr.now c.in-Subtract.left c.in-Subtract.right c.in-Subtract.is c.requires.there c.requires.typed in
     (search (rules, the_lemmas), (search rules, (subst (λ expr. All there (expr_names expr)) (sym c.get-in-Subtract.ensures) at.left_names, subst (CanEvaluate choice) (sym c.get-in-Subtract.ensures) at.left_can)))
 
 pub returns-in_err-number-in-Subtract : goal.returns-in_err-number-in-Subtract
@@ -108,7 +108,7 @@ returns-in_err-number-in-Subtract g t c =
     let there : Name → Type 0 = IsThere (g.R.Cells.has_cell c.args.rows.now) (g.R.Cells.has_slot c.args.rows.now) in
     let choice : Choice = record { cell = g.R.Cells.cell_of c.args.rows.now; slot = g.R.Cells.slot_of c.args.rows.now } in
     let at : Operates there choice (λ x y. x -ℤ y) c.args.expr.now c.in-Subtract.left c.in-Subtract.right =
-        operates node.Subtract (λ x y. x -ℤ y) subtracted is_subtraction there choice c.args.expr.now c.in-Subtract.left c.in-Subtract.right c.in-Subtract.is c.requires.there c.requires.typed in
+    operates node.Subtract (λ x y. x -ℤ y) subtracted is_subtraction there choice c.args.expr.now c.in-Subtract.left c.in-Subtract.right c.in-Subtract.is c.requires.there c.requires.typed in
     let none = answer-none_left there choice (λ x y. x -ℤ y) c.args.expr.now c.in-Subtract.left c.in-Subtract.right c.get-in-Subtract.result.now at c.get-in-Subtract.ensures c.in_err-number-in-Subtract.ensures in
     cc
 
@@ -117,7 +117,7 @@ number-requires-in-Subtract-2 g t c κs within =
     let there : Name → Type 0 = IsThere (g.R.Cells.has_cell c.args.rows.now) (g.R.Cells.has_slot c.args.rows.now) in
     let choice : Choice = record { cell = g.R.Cells.cell_of c.args.rows.now; slot = g.R.Cells.slot_of c.args.rows.now } in
     let at : Operates there choice (λ x y. x -ℤ y) c.args.expr.now c.in-Subtract.left c.in-Subtract.right =
-        operates node.Subtract (λ x y. x -ℤ y) subtracted is_subtraction there choice c.args.expr.now c.in-Subtract.left c.in-Subtract.right c.in-Subtract.is c.requires.there c.requires.typed in
+    operates node.Subtract (λ x y. x -ℤ y) subtracted is_subtraction there choice c.args.expr.now c.in-Subtract.left c.in-Subtract.right c.in-Subtract.is c.requires.there c.requires.typed in
     (search (rules, the_lemmas), (search rules, (subst (λ expr. All there (expr_names expr)) (sym c.get-in-Subtract-2.ensures) at.right_names, subst (CanEvaluate choice) (sym c.get-in-Subtract-2.ensures) at.right_can)))
 
 pub returns-in_err-number-in-Subtract-2 : goal.returns-in_err-number-in-Subtract-2
@@ -125,7 +125,7 @@ returns-in_err-number-in-Subtract-2 g t c =
     let there : Name → Type 0 = IsThere (g.R.Cells.has_cell c.args.rows.now) (g.R.Cells.has_slot c.args.rows.now) in
     let choice : Choice = record { cell = g.R.Cells.cell_of c.args.rows.now; slot = g.R.Cells.slot_of c.args.rows.now } in
     let at : Operates there choice (λ x y. x -ℤ y) c.args.expr.now c.in-Subtract.left c.in-Subtract.right =
-        operates node.Subtract (λ x y. x -ℤ y) subtracted is_subtraction there choice c.args.expr.now c.in-Subtract.left c.in-Subtract.right c.in-Subtract.is c.requires.there c.requires.typed in
+    operates node.Subtract (λ x y. x -ℤ y) subtracted is_subtraction there choice c.args.expr.now c.in-Subtract.left c.in-Subtract.right c.in-Subtract.is c.requires.there c.requires.typed in
     let none = answer-none there choice (λ x y. x -ℤ y) c.args.expr.now c.in-Subtract.left c.in-Subtract.right c.get-in-Subtract.result.now c.get-in-Subtract-2.result.now at c.get-in-Subtract.ensures c.get-in-Subtract-2.ensures c.in_err-number-in-Subtract-2.ensures in
     cc
 
@@ -134,7 +134,7 @@ overflow_sub-result-in-Subtract g t c =
     let there : Name → Type 0 = IsThere (g.R.Cells.has_cell c.args.rows.now) (g.R.Cells.has_slot c.args.rows.now) in
     let choice : Choice = record { cell = g.R.Cells.cell_of c.args.rows.now; slot = g.R.Cells.slot_of c.args.rows.now } in
     let at : Operates there choice (λ x y. x -ℤ y) c.args.expr.now c.in-Subtract.left c.in-Subtract.right =
-        operates node.Subtract (λ x y. x -ℤ y) subtracted is_subtraction there choice c.args.expr.now c.in-Subtract.left c.in-Subtract.right c.in-Subtract.is c.requires.there c.requires.typed in
+    operates node.Subtract (λ x y. x -ℤ y) subtracted is_subtraction there choice c.args.expr.now c.in-Subtract.left c.in-Subtract.right c.in-Subtract.is c.requires.there c.requires.typed in
     SFits-some there choice (λ x y. x -ℤ y) c.args.expr.now c.in-Subtract.left c.in-Subtract.right c.get-in-Subtract.result.now c.get-in-Subtract-2.result.now at c.get-in-Subtract.ensures c.get-in-Subtract-2.ensures c.in_ok-number-in-Subtract.field-0 c.in_ok-number-in-Subtract-2.field-0 c.in_ok-number-in-Subtract.ensures c.in_ok-number-in-Subtract-2.ensures
 
 pub returns-in_ok-number-in-Subtract-2 : goal.returns-in_ok-number-in-Subtract-2
@@ -142,7 +142,7 @@ returns-in_ok-number-in-Subtract-2 g t c =
     let there : Name → Type 0 = IsThere (g.R.Cells.has_cell c.args.rows.now) (g.R.Cells.has_slot c.args.rows.now) in
     let choice : Choice = record { cell = g.R.Cells.cell_of c.args.rows.now; slot = g.R.Cells.slot_of c.args.rows.now } in
     let at : Operates there choice (λ x y. x -ℤ y) c.args.expr.now c.in-Subtract.left c.in-Subtract.right =
-        operates node.Subtract (λ x y. x -ℤ y) subtracted is_subtraction there choice c.args.expr.now c.in-Subtract.left c.in-Subtract.right c.in-Subtract.is c.requires.there c.requires.typed in
+    operates node.Subtract (λ x y. x -ℤ y) subtracted is_subtraction there choice c.args.expr.now c.in-Subtract.left c.in-Subtract.right c.in-Subtract.is c.requires.there c.requires.typed in
     answer-some there choice (λ x y. x -ℤ y) c.args.expr.now c.in-Subtract.left c.in-Subtract.right c.get-in-Subtract.result.now c.get-in-Subtract-2.result.now at c.get-in-Subtract.ensures c.get-in-Subtract-2.ensures c.in_ok-number-in-Subtract.field-0 c.in_ok-number-in-Subtract-2.field-0 c.in_ok-number-in-Subtract.ensures c.in_ok-number-in-Subtract-2.ensures
 
 pub number-requires-in-Multiply : goal.number-requires-in-Multiply
@@ -150,7 +150,7 @@ number-requires-in-Multiply g t c κs within =
     let there : Name → Type 0 = IsThere (g.R.Cells.has_cell c.args.rows.now) (g.R.Cells.has_slot c.args.rows.now) in
     let choice : Choice = record { cell = g.R.Cells.cell_of c.args.rows.now; slot = g.R.Cells.slot_of c.args.rows.now } in
     let at : Operates there choice (λ x y. x *ℤ y) c.args.expr.now c.in-Multiply.left c.in-Multiply.right =
-        operates node.Multiply (λ x y. x *ℤ y) multiplied is_multiplication there choice c.args.expr.now c.in-Multiply.left c.in-Multiply.right c.in-Multiply.is c.requires.there c.requires.typed in
+    operates node.Multiply (λ x y. x *ℤ y) multiplied is_multiplication there choice c.args.expr.now c.in-Multiply.left c.in-Multiply.right c.in-Multiply.is c.requires.there c.requires.typed in
     (search (rules, the_lemmas), (search rules, (subst (λ expr. All there (expr_names expr)) (sym c.get-in-Multiply.ensures) at.left_names, subst (CanEvaluate choice) (sym c.get-in-Multiply.ensures) at.left_can)))
 
 pub returns-in_err-number-in-Multiply : goal.returns-in_err-number-in-Multiply
@@ -158,7 +158,7 @@ returns-in_err-number-in-Multiply g t c =
     let there : Name → Type 0 = IsThere (g.R.Cells.has_cell c.args.rows.now) (g.R.Cells.has_slot c.args.rows.now) in
     let choice : Choice = record { cell = g.R.Cells.cell_of c.args.rows.now; slot = g.R.Cells.slot_of c.args.rows.now } in
     let at : Operates there choice (λ x y. x *ℤ y) c.args.expr.now c.in-Multiply.left c.in-Multiply.right =
-        operates node.Multiply (λ x y. x *ℤ y) multiplied is_multiplication there choice c.args.expr.now c.in-Multiply.left c.in-Multiply.right c.in-Multiply.is c.requires.there c.requires.typed in
+    operates node.Multiply (λ x y. x *ℤ y) multiplied is_multiplication there choice c.args.expr.now c.in-Multiply.left c.in-Multiply.right c.in-Multiply.is c.requires.there c.requires.typed in
     let none = answer-none_left there choice (λ x y. x *ℤ y) c.args.expr.now c.in-Multiply.left c.in-Multiply.right c.get-in-Multiply.result.now at c.get-in-Multiply.ensures c.in_err-number-in-Multiply.ensures in
     cc
 
@@ -167,7 +167,7 @@ number-requires-in-Multiply-2 g t c κs within =
     let there : Name → Type 0 = IsThere (g.R.Cells.has_cell c.args.rows.now) (g.R.Cells.has_slot c.args.rows.now) in
     let choice : Choice = record { cell = g.R.Cells.cell_of c.args.rows.now; slot = g.R.Cells.slot_of c.args.rows.now } in
     let at : Operates there choice (λ x y. x *ℤ y) c.args.expr.now c.in-Multiply.left c.in-Multiply.right =
-        operates node.Multiply (λ x y. x *ℤ y) multiplied is_multiplication there choice c.args.expr.now c.in-Multiply.left c.in-Multiply.right c.in-Multiply.is c.requires.there c.requires.typed in
+    operates node.Multiply (λ x y. x *ℤ y) multiplied is_multiplication there choice c.args.expr.now c.in-Multiply.left c.in-Multiply.right c.in-Multiply.is c.requires.there c.requires.typed in
     (search (rules, the_lemmas), (search rules, (subst (λ expr. All there (expr_names expr)) (sym c.get-in-Multiply-2.ensures) at.right_names, subst (CanEvaluate choice) (sym c.get-in-Multiply-2.ensures) at.right_can)))
 
 pub returns-in_err-number-in-Multiply-2 : goal.returns-in_err-number-in-Multiply-2
@@ -175,7 +175,7 @@ returns-in_err-number-in-Multiply-2 g t c =
     let there : Name → Type 0 = IsThere (g.R.Cells.has_cell c.args.rows.now) (g.R.Cells.has_slot c.args.rows.now) in
     let choice : Choice = record { cell = g.R.Cells.cell_of c.args.rows.now; slot = g.R.Cells.slot_of c.args.rows.now } in
     let at : Operates there choice (λ x y. x *ℤ y) c.args.expr.now c.in-Multiply.left c.in-Multiply.right =
-        operates node.Multiply (λ x y. x *ℤ y) multiplied is_multiplication there choice c.args.expr.now c.in-Multiply.left c.in-Multiply.right c.in-Multiply.is c.requires.there c.requires.typed in
+    operates node.Multiply (λ x y. x *ℤ y) multiplied is_multiplication there choice c.args.expr.now c.in-Multiply.left c.in-Multiply.right c.in-Multiply.is c.requires.there c.requires.typed in
     let none = answer-none there choice (λ x y. x *ℤ y) c.args.expr.now c.in-Multiply.left c.in-Multiply.right c.get-in-Multiply.result.now c.get-in-Multiply-2.result.now at c.get-in-Multiply.ensures c.get-in-Multiply-2.ensures c.in_err-number-in-Multiply-2.ensures in
     cc
 
@@ -184,7 +184,7 @@ overflow_mul-result g t c =
     let there : Name → Type 0 = IsThere (g.R.Cells.has_cell c.args.rows.now) (g.R.Cells.has_slot c.args.rows.now) in
     let choice : Choice = record { cell = g.R.Cells.cell_of c.args.rows.now; slot = g.R.Cells.slot_of c.args.rows.now } in
     let at : Operates there choice (λ x y. x *ℤ y) c.args.expr.now c.in-Multiply.left c.in-Multiply.right =
-        operates node.Multiply (λ x y. x *ℤ y) multiplied is_multiplication there choice c.args.expr.now c.in-Multiply.left c.in-Multiply.right c.in-Multiply.is c.requires.there c.requires.typed in
+    operates node.Multiply (λ x y. x *ℤ y) multiplied is_multiplication there choice c.args.expr.now c.in-Multiply.left c.in-Multiply.right c.in-Multiply.is c.requires.there c.requires.typed in
     SFits-some there choice (λ x y. x *ℤ y) c.args.expr.now c.in-Multiply.left c.in-Multiply.right c.get-in-Multiply.result.now c.get-in-Multiply-2.result.now at c.get-in-Multiply.ensures c.get-in-Multiply-2.ensures c.in_ok-number-in-Multiply.field-0 c.in_ok-number-in-Multiply-2.field-0 c.in_ok-number-in-Multiply.ensures c.in_ok-number-in-Multiply-2.ensures
 
 pub returns-in_ok-number-in-Multiply-2 : goal.returns-in_ok-number-in-Multiply-2
@@ -192,5 +192,5 @@ returns-in_ok-number-in-Multiply-2 g t c =
     let there : Name → Type 0 = IsThere (g.R.Cells.has_cell c.args.rows.now) (g.R.Cells.has_slot c.args.rows.now) in
     let choice : Choice = record { cell = g.R.Cells.cell_of c.args.rows.now; slot = g.R.Cells.slot_of c.args.rows.now } in
     let at : Operates there choice (λ x y. x *ℤ y) c.args.expr.now c.in-Multiply.left c.in-Multiply.right =
-        operates node.Multiply (λ x y. x *ℤ y) multiplied is_multiplication there choice c.args.expr.now c.in-Multiply.left c.in-Multiply.right c.in-Multiply.is c.requires.there c.requires.typed in
+    operates node.Multiply (λ x y. x *ℤ y) multiplied is_multiplication there choice c.args.expr.now c.in-Multiply.left c.in-Multiply.right c.in-Multiply.is c.requires.there c.requires.typed in
     answer-some there choice (λ x y. x *ℤ y) c.args.expr.now c.in-Multiply.left c.in-Multiply.right c.get-in-Multiply.result.now c.get-in-Multiply-2.result.now at c.get-in-Multiply.ensures c.get-in-Multiply-2.ensures c.in_ok-number-in-Multiply.field-0 c.in_ok-number-in-Multiply-2.field-0 c.in_ok-number-in-Multiply.ensures c.in_ok-number-in-Multiply-2.ensures

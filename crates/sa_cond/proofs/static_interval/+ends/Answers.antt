@@ -1,5 +1,5 @@
-use Rattle.std.proofs.Common.{◌≡◌, ◌+ℤ◌, ◌-ℤ◌, ◌*ℤ◌, All, sym, subst, ap, ◌∙◌, rules, option_map}
-use Rattle.sa_cond.specs.declared.expr.Expr.{Expr, the_lemmas}
+use Rattle.std.proofs.Common.{◌+ℤ◌, ◌-ℤ◌, ◌*ℤ◌, All, sym, subst, ap, ◌∙◌, rules, option_map}
+use Rattle.sa_cond.specs.declared.expr.Expr.{the_lemmas}
 use Rattle.sa_cond.specs.declared.expr.Expr.TheVariants as node
 use Rattle.sa_cond.specs.Cited.{Name, IsThere, expr_names}
 use Rattle.sa_cond.specs.Interval.{CellKinds, added, subtracted, multiplied}

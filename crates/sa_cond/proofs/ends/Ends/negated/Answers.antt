@@ -1,8 +1,8 @@
-use mir.Syntax.{w64, w128}
+use mir.Syntax.{w64}
 use mir.Val.{SFits}
 use Rattle.std.proofs.Common.{pos, ◌-ℤ◌, neg_ℤ, rules, arith}
 use Rattle.std.proofs.lemmas.Int.{ints}
-use Rattle.sa_cond.proofs.EndsLemmas.{same_within, passed, passed_is, corner, extreme}
+use Rattle.sa_cond.proofs.EndsLemmas.{same_within, passed}
 use Rattle.sa_cond.proofs.ends.Ends.negated.Goals as goal
 
 pub returns : goal.returns
