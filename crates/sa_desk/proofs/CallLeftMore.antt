@@ -4,7 +4,7 @@ use Rattle.sa_ast.specs.declared.kind.KillKind.{KillKind}
 use Rattle.sa_desk.specs.declared.answer.Looked.{Looked}
 use Rattle.sa_desk.specs.declared.answer.Looked.TheVariants.{NoSuchThread, Reached, Spent, NotYet}
 use Rattle.sa_desk.specs.declared.entry.Entry.{Entry}
-use Rattle.sa_desk.specs.declared.request.Wait.{Wait}
+use Rattle.sa_desk.specs.declared.request.OpenWait.{OpenWait}
 use Rattle.sa_desk.specs.declared.stamp.Stamp.{Stamp}
 use Rattle.sa_desk.specs.Contents.{Contents, IsSound, IsCaller, entry_by, with_entries}
 use Rattle.sa_desk.specs.World.{Quiet, quiet_of, Leaves}
@@ -21,7 +21,7 @@ AreStamped-looked desk stamp (Spent steps turns) number = AreStamped-one desk st
 AreStamped-looked desk stamp NotYet number = AreStamped-none desk stamp
 
 -- A session's wait at a desk is no other session's.
-quiet-waits : (desk : Contents) (entries : List Entry) (session other : ℕ) (wait : Option Wait) → 1 ≤ session → 1 ≤ other → other ≢ session
+quiet-waits : (desk : Contents) (entries : List Entry) (session other : ℕ) (wait : Option OpenWait) → 1 ≤ session → 1 ≤ other → other ≢ session
     → let next : Contents = record (with_entries entries desk) { waits = slice_set desk.waits (session - 1) wait } in quiet_of next other ≡ quiet_of desk other
 quiet-waits desk entries session other wait least from apart =
     let same = get_or-set_other desk.waits (session - 1) (other - 1) wait None (λ is. apart (omega arith)) in

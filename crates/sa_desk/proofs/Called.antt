@@ -7,15 +7,16 @@ use Rattle.sa_desk.specs.declared.stamp.Stamp.{Stamp}
 use Rattle.sa_desk.specs.Contents.{Contents, IsSound, HasNumbers}
 use Rattle.sa_desk.specs.World.{Leaves, IsCall}
 use Rattle.sa_desk.specs.New.{no_desk}
-use Rattle.sa_desk.specs.Plain.{Plain, desk_at, are_there, world_of, SameDesks, IsPlain, made_of, next_plain, stamp_at}
+use Rattle.sa_desk.specs.Plain.{Plain, desk_at, are_there, world_of, SameDesks, IsPlain}
+use Rattle.sa_desk.specs.inner.NextPlain.{made_of, next_plain, stamp_at}
 use Rattle.sa_desk.proofs.PlainCall.{are_there-is, next_stamp-counted, made_fits, length-entries_of, made_of-session, IsPlain-next, IsCall-next}
 use Rattle.sa_desk.proofs.CallLeft.{stamp_of}
 
--- The code takes the desk at the place of its number, and makes a stamp.
+-- The code takes the desk at the index of its number, and makes a stamp.
 pub record Takes (plain : Plain) (desk : ℕ) (me : Caller) (at : Contents) (stamp : Stamp) : Type 0 where
-  pub place : ℕ
-  pub place_is : place ≡ desk - 1
-  pub at_is : at ≡ slice_index_or plain.desks place at
+  pub index : ℕ
+  pub index_is : index ≡ desk - 1
+  pub at_is : at ≡ slice_index_or plain.desks index at
   pub stamp_is : stamp ≡ stamp_at plain me
 
 -- The call leaves the desk so, and the code knows how many entries its journal had and has.
@@ -48,9 +49,9 @@ module _ (held plain : Plain) (view : held ≡ plain) (is_held : IsPlain held) (
     at_is : at ≡ desk_at plain desk
     at_is =
         let there = are_there-is plain desk me.actor allowed in
-        let here = takes.place_is in
+        let here = takes.index_is in
         let within = ap (λ plain. length plain.desks) view in
-        takes.at_is ∙ get_or_default held.desks takes.place at no_desk (omega arith) ∙ ap₂ (λ plain place. slice_index_or plain.desks place no_desk) view here
+        takes.at_is ∙ get_or_default held.desks takes.index at no_desk (omega arith) ∙ ap₂ (λ plain index. slice_index_or plain.desks index no_desk) view here
 
     stamp_is : stamp ≡ stamp_of plain me
     stamp_is =
@@ -101,12 +102,12 @@ module _ (held plain : Plain) (view : held ≡ plain) (is_held : IsPlain held) (
 
     -- The desks with what is left there, and with the entries counted, are those after the call.
     pub done_as : (all : List ℕ) → all ≡ slice_set held.made (me.actor - 1) (made_of held me.actor + (has - had))
-        → let later : Plain = record { desks = slice_set held.desks calls.takes.place new; made = all } in IsDone plain desk me entries after later
+        → let later : Plain = record { desks = slice_set held.desks calls.takes.index new; made = all } in IsDone plain desk me entries after later
     done_as all all_is =
         let there = are_there-is plain desk me.actor allowed in
-        let later : Plain = record { desks = slice_set held.desks calls.takes.place new; made = all } in
+        let later : Plain = record { desks = slice_set held.desks calls.takes.index new; made = all } in
         let of_made = all_is ∙ ap₂ (λ plain count. slice_set plain.made (me.actor - 1) (made_of plain me.actor + count)) view counted in
-        let of_desks = ap (λ place. slice_set held.desks place new) calls.takes.place_is ∙ ap₂ (λ plain contents. slice_set plain.desks (desk - 1) contents) view next_is in
+        let of_desks = ap (λ index. slice_set held.desks index new) calls.takes.index_is ∙ ap₂ (λ plain contents. slice_set plain.desks (desk - 1) contents) view next_is in
         let same : later ≡ next_plain plain desk me.actor made next = ap₂ (λ desks made. let plain : Plain = record { desks = desks; made = made } in plain) of_desks of_made in
         subst (IsDone plain desk me entries after) (sym same) (record {
           call = IsCall-next plain is desk me.actor allowed made next is_left;

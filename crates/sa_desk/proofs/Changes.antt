@@ -13,7 +13,7 @@ use Rattle.sa_desk.specs.declared.entry.RefusedWhy.{RefusedWhy}
 use Rattle.sa_desk.specs.declared.outcome.Outcome.{Outcome}
 use Rattle.sa_desk.specs.declared.request.Request.{Request}
 use Rattle.sa_desk.specs.declared.request.Reply.{Reply}
-use Rattle.sa_desk.specs.State.{Terms, Statement, Execution, Phase, idle, plain, planned, serving, State, queue_of}
+use Rattle.sa_desk.specs.State.{Terms, Statement, Execution, Phase, idle, unplanned, planned, serving, State, queue_of}
 use Rattle.sa_desk.specs.Comes.{ComesIn, Comes, ServesFirst}
 use Rattle.sa_desk.specs.After.{after_event, after, begun, served, still_serving, without, untaken, first_owed}
 use Rattle.sa_desk.specs.Charge.{cost}
@@ -129,7 +129,7 @@ module _ (terms : Terms) (doomed : Bool) (replies : List Reply) (desk actor seq 
   on_close phase comes = absurd comes
 
   on_end : (phase : Phase) (number : ℕ) (outcome : Outcome) (steps : ℕ) → Goal phase (End number outcome steps)
-  on_end (plain statement) number outcome steps comes = keeps (record { same_queue = refl; same_replies = refl; costs = refl })
+  on_end (unplanned statement) number outcome steps comes = keeps (record { same_queue = refl; same_replies = refl; costs = refl })
   on_end (planned statement execution) number outcome steps comes =
       keeps (record { same_queue = sym comes.1.served; same_replies = refl; costs = refl })
   on_end phase number outcome steps comes = absurd comes

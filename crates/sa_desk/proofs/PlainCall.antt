@@ -16,7 +16,8 @@ use Rattle.sa_desk.specs.Runs.{IsEntryOf}
 use Rattle.sa_desk.specs.Contents.{Contents, IsSound}
 use Rattle.sa_desk.specs.New.{no_desk}
 use Rattle.sa_desk.specs.World.{quiet_of, Leaves, made_by, standing_on, next_stamp, Begins, Meets, IsCall}
-use Rattle.sa_desk.specs.Plain.{Plain, all_entries, is_numbered, entries_of, desk_at, are_there, quiet_at, world_of, AreOwn, IsPlain, made_of, next_plain}
+use Rattle.sa_desk.specs.Plain.{Plain, all_entries, is_numbered, entries_of, desk_at, are_there, quiet_at, world_of, AreOwn, IsPlain}
+use Rattle.sa_desk.specs.inner.NextPlain.{made_of, next_plain}
 use Rattle.sa_desk.proofs.Capacity.{sound_fits}
 use Rattle.sa_desk.proofs.Numbered.{filter-nothing, filter-everything, filter-finer, filter-none_left, Inserted, filter-unchanged, filter-new, length-inserted, range-append, flat_map-same, numbers_of, AreNumbered, none_numbered, each_numbered, flat_map-nothing}
 
@@ -27,18 +28,18 @@ pub record AreThere (plain : Plain) (desk session : ℕ) : Type 0 where
   pub session_least : 1 ≤ session
   pub session_most : session ≤ length plain.desks
 
--- A desk has more entries at the end of its journal, and so have all desks together at some place.
-pub all_entries-set : (desks : List Contents) (place : ℕ) (next : Contents) (entries : List Entry) → place < length desks
-    → next.journal ≡ (slice_index_or desks place no_desk).journal ++ entries → Inserted entries (all_entries desks) (all_entries (slice_set desks place next))
-all_entries-set [] place next entries within grown = absurd (omega arith)
+-- A desk has more entries at the end of its journal, and so have all desks together at some index.
+pub all_entries-set : (desks : List Contents) (index : ℕ) (next : Contents) (entries : List Entry) → index < length desks
+    → next.journal ≡ (slice_index_or desks index no_desk).journal ++ entries → Inserted entries (all_entries desks) (all_entries (slice_set desks index next))
+all_entries-set [] index next entries within grown = absurd (omega arith)
 all_entries-set (desk ∷ rest) zero next entries within grown = record {
   first = desk.journal;
   last = all_entries rest;
   before_is = refl;
   later_is = ap (λ journal. journal ++ all_entries rest) grown ∙ append_assoc desk.journal entries (all_entries rest);
 }
-all_entries-set (desk ∷ rest) (suc place) next entries within grown =
-    let more = all_entries-set rest place next entries (omega arith) grown in record {
+all_entries-set (desk ∷ rest) (suc index) next entries within grown =
+    let more = all_entries-set rest index next entries (omega arith) grown in record {
       first = desk.journal ++ more.first;
       last = more.last;
       before_is = ap (λ all. desk.journal ++ all) more.before_is ∙ sym (append_assoc desk.journal more.first more.last);
@@ -46,33 +47,33 @@ all_entries-set (desk ∷ rest) (suc place) next entries within grown =
     }
 
 -- None of all entries passes where none passes on any desk.
-filter-all_entries : (p : Entry → Bool) (desks : List Contents) → ((place : ℕ) → place < length desks → filter p (slice_index_or desks place no_desk).journal ≡ []) → filter p (all_entries desks) ≡ []
+filter-all_entries : (p : Entry → Bool) (desks : List Contents) → ((index : ℕ) → index < length desks → filter p (slice_index_or desks index no_desk).journal ≡ []) → filter p (all_entries desks) ≡ []
 filter-all_entries p [] none = refl
 filter-all_entries p (desk ∷ rest) none =
     filter-append p desk.journal (all_entries rest)
-    ∙ ap₂ ◌++◌ (none 0 (omega arith)) (filter-all_entries p rest (λ place within. none (suc place) (omega arith)))
+    ∙ ap₂ ◌++◌ (none 0 (omega arith)) (filter-all_entries p rest (λ index within. none (suc index) (omega arith)))
 
 -- So many entries are there as the desks' journals can have.
-sum-journals : (desks : List Contents) (most : ℕ) → ((place : ℕ) → place < length desks → length (slice_index_or desks place no_desk).journal ≤ most)
+sum-journals : (desks : List Contents) (most : ℕ) → ((index : ℕ) → index < length desks → length (slice_index_or desks index no_desk).journal ≤ most)
     → sum_by (λ desk. length desk.journal) desks ≤ length desks * most
 sum-journals [] most each = omega arith
 sum-journals (desk ∷ rest) most each =
     let here : length desk.journal ≤ most = each 0 (omega arith) in
-    let rests = sum-journals rest most (λ place within. each (suc place) (omega arith)) in
+    let rests = sum-journals rest most (λ index within. each (suc index) (omega arith)) in
     let both = sum_by-cons (λ desk. length desk.journal) desk rest in
     grind arith
 
 -- by the number of a desk
-abbrev by_place : (plain : Plain) (P : Contents → Type 0) → ((desk : ℕ) → 1 ≤ desk → desk ≤ length plain.desks → P (desk_at plain desk)) → (place : ℕ) → place < length plain.desks → P (slice_index_or plain.desks place no_desk)
-by_place plain P each place within =
-    let number : place + 1 - 1 ≡ place = omega arith in
-    subst (λ at. P (slice_index_or plain.desks at no_desk)) number (each (place + 1) (omega arith) (omega arith))
+abbrev by_index : (plain : Plain) (P : Contents → Type 0) → ((desk : ℕ) → 1 ≤ desk → desk ≤ length plain.desks → P (desk_at plain desk)) → (index : ℕ) → index < length plain.desks → P (slice_index_or plain.desks index no_desk)
+by_index plain P each index within =
+    let number : index + 1 - 1 ≡ index = omega arith in
+    subst (λ at. P (slice_index_or plain.desks at no_desk)) number (each (index + 1) (omega arith) (omega arith))
 
 module _ (plain : Plain) (is : IsPlain plain) where
   -- No session has more entries than numbers are left for.
   pub made_fits : (session : ℕ) → 1 ≤ session → session ≤ length plain.desks → made_of plain session ≤ 16 * 2 ^ 20
   made_fits session least most =
-      let each = by_place plain (λ desk. length desk.journal ≤ 2 ^ 20) (λ desk least most.
+      let each = by_index plain (λ desk. length desk.journal ≤ 2 ^ 20) (λ desk least most.
       let sound = is.sound desk least most in
       let fits = sound_fits (desk_at plain desk) sound in
       let few = sound.few in
@@ -102,7 +103,7 @@ module _ (plain : Plain) (is : IsPlain plain) where
   none_later : (session number : ℕ) → 1 ≤ session → session ≤ length plain.desks → made_of plain session < number → filter (is_numbered session number) (all_entries plain.desks) ≡ []
   none_later session number least most past =
       filter-all_entries (is_numbered session number) plain.desks
-      (by_place plain (λ desk. filter (is_numbered session number) desk.journal ≡ []) (λ desk from to.
+      (by_index plain (λ desk. filter (is_numbered session number) desk.journal ≡ []) (λ desk from to.
       let mine = entries_of plain session in
       let many = length-entries_of session least most in
       let none = none_numbered session number 1 mine (AreNumbered-entries_of session least most) (λ k low high. omega arith) in
@@ -114,7 +115,7 @@ module _ (plain : Plain) (is : IsPlain plain) where
   none_of_nobody : (number : ℕ) → filter (is_numbered 0 number) (all_entries plain.desks) ≡ []
   none_of_nobody number =
       filter-all_entries (is_numbered 0 number) plain.desks
-      (by_place plain (λ desk. filter (is_numbered 0 number) desk.journal ≡ []) (λ desk from to.
+      (by_index plain (λ desk. filter (is_numbered 0 number) desk.journal ≡ []) (λ desk from to.
       let at = desk_at plain desk in
       filter-nothing (is_numbered 0 number) at.journal
       (All-weaker (IsEntryOf at.terms.desk (length at.shares)) (λ entry. is_numbered 0 number entry ≡ false)
@@ -177,8 +178,8 @@ module _ (plain : Plain) (is : IsPlain plain) (desk session : ℕ) (allowed : ar
   both_ways P changed same at =
       elim (cases_eq (at - 1) (desk - 1)) [
         | inl is ↦
-            let old : desk_at plain at ≡ desk_at plain desk = ap (λ place. slice_index_or plain.desks place no_desk) is in
-            let new : desk_at after at ≡ next = ap (λ place. slice_index_or after.desks place no_desk) is ∙ here in
+            let old : desk_at plain at ≡ desk_at plain desk = ap (λ index. slice_index_or plain.desks index no_desk) is in
+            let new : desk_at after at ≡ next = ap (λ index. slice_index_or after.desks index no_desk) is ∙ here in
             subst (λ before. P before (desk_at after at)) (sym old) (subst (P (desk_at plain desk)) (sym new) changed)
         | inr other ↦ subst (P (desk_at plain at)) (sym (elsewhere at other)) (same (desk_at plain at))
       ]

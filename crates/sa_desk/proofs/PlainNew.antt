@@ -5,11 +5,12 @@ use Rattle.std.proofs.lemmas.Bool.{cases_Bool}
 use Rattle.std.proofs.lemmas.Bool.Decides.{nat_tests}
 use Rattle.std.proofs.lemmas.List.{get_or-replicate, get_or_past, length-replicate}
 use Rattle.sa_desk.specs.declared.entry.Entry.{Entry}
-use Rattle.sa_desk.specs.declared.request.Wait.{Wait}
+use Rattle.sa_desk.specs.declared.request.OpenWait.{OpenWait}
 use Rattle.sa_desk.specs.Contents.{Contents}
 use Rattle.sa_desk.specs.New.{new_desk, no_desk, AreNew}
 use Rattle.sa_desk.specs.World.{no_quiet, quiet_of, made_by, standing_on, IsFirst}
-use Rattle.sa_desk.specs.Plain.{Plain, is_numbered, all_entries, entries_of, desk_at, are_there, quiet_at, world_of, AreOwn, IsPlain, made_of}
+use Rattle.sa_desk.specs.Plain.{Plain, is_numbered, all_entries, entries_of, desk_at, are_there, quiet_at, world_of, AreOwn, IsPlain}
+use Rattle.sa_desk.specs.inner.NextPlain.{made_of}
 use Rattle.sa_desk.proofs.PlainCall.{are_there-is, Meets-plain}
 
 -- A list of one thing alone has it everywhere, and past its end too.
@@ -24,7 +25,7 @@ slice_index_or-replicate count index thing =
 quiet_of-new : (number quantum turns : ℕ) (shares : List ℕ) (session : ℕ) → quiet_of (new_desk number quantum turns shares) session ≡ no_quiet
 quiet_of-new number quantum turns shares session =
     let polls : slice_index (replicate (length shares) 0) (session - 1) ≡ 0 = slice_index_or-replicate (length shares) (session - 1) 0 in
-    let none : Option Wait = None in
+    let none : Option OpenWait = None in
     let waits : slice_index_or (replicate (length shares) none) (session - 1) None ≡ None = slice_index_or-replicate (length shares) (session - 1) none in
     elim (cases_Bool (session == number)) [
       | inl own ↦ rw (own, polls, waits) refl

@@ -12,7 +12,7 @@ use Rattle.sa_desk.specs.declared.entry.Event.{Event}
 use Rattle.sa_desk.specs.declared.entry.Event.TheVariants.{Begin, Queued, Refused, Served, Taken, Spent, Withdrawn, KillSent, Waited, WaitSpent, End, Gone, Close}
 use Rattle.sa_desk.specs.declared.request.Request.{Request}
 use Rattle.sa_desk.specs.declared.request.Reply.{Reply}
-use Rattle.sa_desk.specs.State.{Terms, Statement, Execution, Phase, idle, plain, planned, serving, closed, State, start, IsPublished, IsLawful}
+use Rattle.sa_desk.specs.State.{Terms, Statement, Execution, Phase, idle, unplanned, planned, serving, closed, State, start, IsPublished, IsLawful}
 use Rattle.sa_desk.specs.Comes.{ComesIn, Comes, ServesFirst}
 use Rattle.sa_desk.specs.After.{after_event, after, begun, served, without}
 use Rattle.sa_desk.specs.Runs.{state_of, Runs}
@@ -79,14 +79,14 @@ module _ (terms : Terms) (doomed : Bool) (replies : List Reply) (desk actor seq 
 
   on_kill : (phase : Phase) (number : ℕ) (kind : KillKind) → Goal phase (KillSent number kind)
   on_kill idle number kind comes aligned = tt
-  on_kill (plain statement) number kind comes aligned = tt
+  on_kill (unplanned statement) number kind comes aligned = tt
   on_kill (planned statement execution) number kind comes aligned = aligned
   on_kill (serving statement execution steps turn) number kind comes aligned = absurd comes
   on_kill closed number kind comes aligned = absurd comes
 
   on_waited : (phase : Phase) (number steps : ℕ) → Goal phase (Waited number steps)
   on_waited idle number steps comes aligned = tt
-  on_waited (plain statement) number steps comes aligned = tt
+  on_waited (unplanned statement) number steps comes aligned = tt
   on_waited (planned statement execution) number steps comes aligned =
       AllAt-published terms.quantum execution execution.queue steps refl comes aligned
   on_waited (serving statement execution shown turn) number steps comes aligned = absurd comes
@@ -94,7 +94,7 @@ module _ (terms : Terms) (doomed : Bool) (replies : List Reply) (desk actor seq 
 
   on_wait_spent : (phase : Phase) (number steps turns : ℕ) → Goal phase (WaitSpent number steps turns)
   on_wait_spent idle number steps turns comes aligned = tt
-  on_wait_spent (plain statement) number steps turns comes aligned = tt
+  on_wait_spent (unplanned statement) number steps turns comes aligned = tt
   on_wait_spent (planned statement execution) number steps turns comes aligned =
       AllAt-published terms.quantum execution execution.queue steps refl comes aligned
   on_wait_spent (serving statement execution shown turn) number steps turns comes aligned = absurd comes

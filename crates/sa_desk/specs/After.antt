@@ -9,13 +9,13 @@ use Rattle.sa_desk.specs.declared.entry.Event.{Event}
 use Rattle.sa_desk.specs.declared.entry.Event.TheVariants.{Begin, Queued, Refused, Served, Taken, Spent, Withdrawn, KillSent, Waited, WaitSpent, End, Gone, Close}
 use Rattle.sa_desk.specs.declared.request.Request.{Request}
 use Rattle.sa_desk.specs.declared.request.Reply.{Reply}
-use Rattle.sa_desk.specs.State.{Terms, Statement, Execution, Phase, idle, plain, planned, serving, closed, State}
+use Rattle.sa_desk.specs.State.{Terms, Statement, Execution, Phase, idle, unplanned, planned, serving, closed, State}
 
 -- A statement has just begun, with a plan over tables or without.
 abbrev pub begun : Statement → Option Plan → Option RunData → Phase
 begun statement (Some plan) (Some tables) =
     planned statement (record { plan = plan; tables = tables; shown = 0; queue = []; owed = None })
-begun statement plan tables = plain statement
+begun statement plan tables = unplanned statement
 
 -- the requests, and the answers, without those of an actor
 abbrev pub without : ℕ → List Request → List Request
@@ -64,14 +64,14 @@ after_serving quantum phase steps turn = phase
 
 -- the number of the Begin entry of the statement that is on
 abbrev pub begin_of : Phase → ℕ
-begin_of (plain statement) = statement.begin
+begin_of (unplanned statement) = statement.begin
 begin_of (planned statement execution) = statement.begin
 begin_of (serving statement execution steps turn) = statement.begin
 begin_of phase = 0
 
 -- The statement that is on, if one is, is killed.
 abbrev pub killed : Phase → Phase
-killed (plain statement) = plain (record statement { killed = true })
+killed (unplanned statement) = unplanned (record statement { killed = true })
 killed (planned statement execution) = planned (record statement { killed = true }) execution
 killed phase = phase
 

@@ -10,7 +10,7 @@ use Rattle.sa_desk.specs.declared.entry.RefusedWhy.TheVariants.{NotExplainable, 
 use Rattle.sa_desk.specs.declared.outcome.Outcome.TheVariants.{Interrupted}
 use Rattle.sa_desk.specs.declared.request.Request.{Request}
 use Rattle.sa_desk.specs.declared.request.Reply.{Reply}
-use Rattle.sa_desk.specs.State.{Terms, Statement, Execution, Phase, idle, plain, planned, serving, closed, State, IsLawful, IsPublished, HasNone}
+use Rattle.sa_desk.specs.State.{Terms, Statement, Execution, Phase, idle, unplanned, planned, serving, closed, State, IsLawful, IsPublished, HasNone}
 
 -- The entry is of the desk's own session.
 abbrev pub IsOwn : Terms → Entry → Type 0
@@ -65,7 +65,7 @@ ComesIn terms state entry (planned statement execution) (Queued number kind at b
     HasNone entry.actor state.phase state.replies × IsPublished terms.quantum execution at × (budget ≡ terms.turns)
 ComesIn terms state entry phase (Queued number kind at budget) = ⊥
 ComesIn terms state entry idle (Refused number NotExplainable) = ⊤
-ComesIn terms state entry (plain statement) (Refused number NotExplainable) = ⊤
+ComesIn terms state entry (unplanned statement) (Refused number NotExplainable) = ⊤
 ComesIn terms state entry closed (Refused number NoSuchThread) = ⊤
 ComesIn terms state entry phase (Refused number why) = ⊥
 -- its answer
@@ -93,7 +93,7 @@ ComesIn terms state entry (serving statement execution number turn) (WaitSpent w
 ComesIn terms state entry closed (WaitSpent waiter steps turns) = ⊥
 ComesIn terms state entry phase (WaitSpent waiter steps turns) = IsLawful terms.quantum phase steps
 -- the end of a statement, and of the session
-ComesIn terms state entry (plain statement) (End number outcome steps) =
+ComesIn terms state entry (unplanned statement) (End number outcome steps) =
     Ends terms statement entry number (outcome ≡ Interrupted) × (steps ≡ 0)
 ComesIn terms state entry (planned statement execution) (End number outcome steps) =
     Ends terms statement entry number (outcome ≡ Interrupted) × Settles execution entry steps

@@ -11,7 +11,5 @@ pub mod Own
 pub mod call
 pub mod law
 pub mod program
-pub mod Desk
 pub mod Plain
-pub mod PlainDesks
-pub mod Parts
+pub mod inner

@@ -5,7 +5,7 @@ use Rattle.sa_meaning.specs.Data.{RunData}
 use Rattle.sa_desk.specs.declared.entry.Entry.{Entry}
 use Rattle.sa_desk.specs.declared.entry.Event.{Event}
 use Rattle.sa_desk.specs.declared.entry.Event.TheVariants.{Begin, Queued, Taken, Spent, Withdrawn, End, Close}
-use Rattle.sa_desk.specs.State.{Phase, idle, plain, planned, serving, closed, State, HasNone, queue_of}
+use Rattle.sa_desk.specs.State.{Phase, idle, unplanned, planned, serving, closed, State, HasNone, queue_of}
 use Rattle.sa_desk.specs.Comes.{IsQueued, IsServed}
 
 -- A phase without what the entries of others change of it: nothing is on, a statement without a plan is, or one that runs a plan,
@@ -18,7 +18,7 @@ pub data Outline : Type 0 where
 
 abbrev pub outline : Phase → Outline
 outline idle = free
-outline (plain statement) = plainly statement.number statement.begin statement.turn
+outline (unplanned statement) = plainly statement.number statement.begin statement.turn
 outline (planned statement execution) = running statement.number statement.begin statement.turn execution.plan execution.tables
 outline (serving statement execution steps turn) = running statement.number statement.begin statement.turn execution.plan execution.tables
 outline closed = over

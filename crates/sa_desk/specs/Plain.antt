@@ -1,9 +1,7 @@
 -- Desks that are called on one thread.
-use Rattle.std.specs.Prelude.{◌≡◌, ℕ, ◌+◌, ◌-◌, ◌≤◌, ◌==◌, ◌&&◌, Bool, List, length, filter, map, slice_index, slice_index_or, nat_lt, if◌then◌else◌, slice_set}
+use Rattle.std.specs.Prelude.{◌≡◌, ℕ, ◌+◌, ◌-◌, ◌≤◌, ◌==◌, ◌&&◌, Bool, List, length, filter, map, slice_index, slice_index_or, nat_lt, if◌then◌else◌}
 use Rattle.std.specs.List.{flat_map, range_with_len, sum_by}
 use Rattle.sa_desk.specs.declared.entry.Entry.{Entry}
-use Rattle.sa_desk.specs.declared.stamp.Caller.{Caller}
-use Rattle.sa_desk.specs.declared.stamp.Stamp.{Stamp}
 use Rattle.sa_desk.specs.New.{no_desk}
 use Rattle.sa_desk.specs.Contents.{Contents, IsSound}
 use Rattle.sa_desk.specs.World.{World, Quiet, no_quiet, quiet_of, made_by, standing_on}
@@ -73,18 +71,3 @@ pub record IsPlain (plain : Plain) : Type 0 where
   pub numbers : (desk : ℕ) → 1 ≤ desk → desk ≤ length plain.desks → (desk_at plain desk).terms.desk ≡ desk
   pub shares : (desk : ℕ) → 1 ≤ desk → desk ≤ length plain.desks → length (desk_at plain desk).shares ≡ length plain.desks
   pub entries : (session : ℕ) → 1 ≤ session → session ≤ length plain.desks → AreOwn plain session
-
--- how many entries a session has made
-abbrev pub made_of : Plain → ℕ → ℕ
-made_of plain session = slice_index plain.made (session - 1)
-
--- the stamp of a session's next entry, by how many it has made
-abbrev pub stamp_at : Plain → Caller → Stamp
-stamp_at plain me = record { actor = me.actor; seq = made_of plain me.actor + 1; turn = me.turn }
-
--- The desks after a call that has made these entries and left this: all other desks stay.
-abbrev pub next_plain : Plain → (desk session : ℕ) → List Entry → Contents → Plain
-next_plain plain desk session entries left = record {
-  desks = slice_set plain.desks (desk - 1) left;
-  made = slice_set plain.made (session - 1) (made_of plain session + length entries);
-}

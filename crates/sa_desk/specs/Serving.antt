@@ -7,7 +7,7 @@ use Rattle.sa_desk.specs.declared.entry.Entry.{Entry}
 use Rattle.sa_desk.specs.declared.entry.Event.TheVariants.{Served}
 use Rattle.sa_desk.specs.declared.request.Request.{Request}
 use Rattle.sa_desk.specs.declared.stamp.Stamp.{Stamp}
-use Rattle.sa_desk.specs.State.{Phase, plain, planned, serving, queue_of}
+use Rattle.sa_desk.specs.State.{Phase, unplanned, planned, serving, queue_of}
 use Rattle.sa_desk.specs.Contents.{Contents, phase, entry_by, later}
 
 -- what the run has counted
@@ -32,14 +32,14 @@ IsRunOf phase run = ⊥
 
 -- the turn in which the statement that is on began
 abbrev pub begin_turn : Phase → ℕ
-begin_turn (plain statement) = statement.turn
+begin_turn (unplanned statement) = statement.turn
 begin_turn (planned statement execution) = statement.turn
 begin_turn (serving statement execution steps turn) = statement.turn
 begin_turn phase = 0
 
 -- whether a kill stands for the statement that is on
 abbrev pub is_killed : Phase → Bool
-is_killed (plain statement) = statement.killed
+is_killed (unplanned statement) = statement.killed
 is_killed (planned statement execution) = statement.killed
 is_killed (serving statement execution steps turn) = statement.killed
 is_killed phase = false

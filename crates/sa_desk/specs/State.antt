@@ -37,7 +37,7 @@ pub record Execution : Type 0 where
 -- such a statement, all with one number of steps and in one turn, or is done.
 pub data Phase : Type 0 where
   idle : Phase
-  plain : (statement : Statement) → Phase
+  unplanned : (statement : Statement) → Phase
   planned : (statement : Statement) (execution : Execution) → Phase
   serving : (statement : Statement) (execution : Execution) (steps turn : ℕ) → Phase
   closed : Phase
@@ -56,7 +56,7 @@ start = record { phase = idle; doomed = false; replies = [] }
 -- the requests that wait
 abbrev pub queue_of : Phase → List Request
 queue_of idle = []
-queue_of (plain statement) = []
+queue_of (unplanned statement) = []
 queue_of (planned statement execution) = execution.queue
 queue_of (serving statement execution steps turn) = execution.queue
 queue_of closed = []
@@ -78,7 +78,7 @@ pub record IsPublished (quantum : ℕ) (execution : Execution) (steps : ℕ) : T
 -- The lawful numbers: 0 where nothing with a plan is on.
 abbrev pub IsLawful : ℕ → Phase → ℕ → Type 0
 IsLawful quantum idle steps = steps ≡ 0
-IsLawful quantum (plain statement) steps = steps ≡ 0
+IsLawful quantum (unplanned statement) steps = steps ≡ 0
 IsLawful quantum (planned statement execution) steps = IsPublished quantum execution steps
 IsLawful quantum (serving statement execution number turn) steps = IsPublished quantum execution steps
 IsLawful quantum closed steps = steps ≡ 0

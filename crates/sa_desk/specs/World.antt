@@ -2,7 +2,7 @@
 use Rattle.std.specs.Prelude.{◌≡◌, ◌≢◌, ℕ, ◌+◌, ◌-◌, ◌≤◌, ◌==◌, Bool, true, List, [], ◌++◌, length, map, filter, Option, None, All, slice_index, slice_index_or, if◌then◌else◌}
 use Rattle.std.specs.List.{range_with_len}
 use Rattle.sa_desk.specs.declared.entry.Entry.{Entry}
-use Rattle.sa_desk.specs.declared.request.Wait.{Wait}
+use Rattle.sa_desk.specs.declared.request.OpenWait.{OpenWait}
 use Rattle.sa_desk.specs.declared.stamp.Caller.{Caller}
 use Rattle.sa_desk.specs.declared.stamp.Stamp.{Stamp}
 use Rattle.sa_desk.specs.State.{Terms}
@@ -15,7 +15,7 @@ pub record Quiet : Type 0 where
   -- how often its last request there was polled without an answer
   pub polls : ℕ
   -- its open wait there
-  pub wait : Option Wait
+  pub wait : Option OpenWait
 
 -- what a desk counts for a session
 abbrev pub quiet_of : Contents → ℕ → Quiet

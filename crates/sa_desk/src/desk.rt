@@ -13,7 +13,7 @@ mod waits;
 use crate::entry::Entry;
 use crate::journal::Entries;
 use crate::phase::Phase;
-use crate::request::{Reply, Request, Wait};
+use crate::request::{OpenWait, Reply, Request};
 use arrayvec::ArrayVec;
 use sa_value::OutOfMemory;
 use std::alloc::Global;
@@ -37,7 +37,7 @@ pub struct Desk {
     queue: ArrayVec<Request, 16>,
     replies: ArrayVec<Reply, 16>,
     polls: ArrayVec<u64, 16>,
-    waits: ArrayVec<Option<Wait>, 16>,
+    waits: ArrayVec<Option<OpenWait>, 16>,
 }
 
 impl Model for Desk {
@@ -51,7 +51,7 @@ impl Model for Desk {
 
     ghost coded = { Prim.hlevel (codes, cond.the_row.coded, expr.the_row.coded) };
 
-    ghost use Rattle.sa_desk.specs.Desk.{contents_of, IsReady};
+    ghost use Rattle.sa_desk.specs.inner.Desk.{contents_of, IsReady};
 
     ghost view = { contents_of };
 

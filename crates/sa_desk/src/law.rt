@@ -20,8 +20,9 @@ ghost use Rattle.sa_desk.specs.law.Shown.{IsShown};
 
 /// A statement ends Interrupted exactly where a kill came between its begin and its end.
 pub fn interrupted_is_killed()
-    ensures { (terms : Terms) (journal before rest : List Entry) (entry : Entry) (number steps : ℕ) (outcome : Outcome) →
-        IsDeskRun terms journal → journal ≡ before ++ entry ∷ rest → entry.event ≡ End number outcome steps →
+    ensures { (terms : Terms) (journal before rest : List Entry) (entry : Entry) →
+        IsDeskRun terms journal → journal ≡ before ++ entry ∷ rest →
+        (number steps : ℕ) (outcome : Outcome) → entry.event ≡ End number outcome steps →
         EndsAsKilled terms before number outcome }
 {}
 
@@ -35,8 +36,9 @@ pub fn requests_end_once()
 /// An answer is the desk's own session's. It shows the plan that runs, and what it has counted after a
 /// number of steps that is at most a quantum above the one at which the request was queued.
 pub fn shown_plan_runs()
-    ensures { (terms : Terms) (journal before rest : List Entry) (entry : Entry) (asker request : ℕ) (report : Report) →
-        IsDeskRun terms journal → journal ≡ before ++ entry ∷ rest → entry.event ≡ Served asker request report →
+    ensures { (terms : Terms) (journal before rest : List Entry) (entry : Entry) →
+        IsDeskRun terms journal → journal ≡ before ++ entry ∷ rest →
+        (asker request : ℕ) (report : Report) → entry.event ≡ Served asker request report →
         IsShown terms before entry asker request report }
 {}
 

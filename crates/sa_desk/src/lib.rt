@@ -27,5 +27,5 @@ pub use law::{
 };
 pub use outcome::{Finish, Outcome, StepStop};
 pub use plain::PlainDesks;
-pub use request::{Reply, Request, Wait};
+pub use request::{OpenWait, Reply, Request};
 pub use stamp::{Caller, Stamp};

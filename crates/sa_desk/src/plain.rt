@@ -40,7 +40,7 @@ impl Model for PlainDesks {
 
     ghost coded = { Prim.hlevel (codes, cond.the_row.coded, expr.the_row.coded) };
 
-    ghost use Rattle.sa_desk.specs.PlainDesks.{plain_of, AreReady};
+    ghost use Rattle.sa_desk.specs.inner.PlainDesks.{plain_of, AreReady};
 
     ghost view = { plain_of };
 
@@ -52,7 +52,8 @@ impl PlainDesks {
     /// list of journals that `finish` gives.
     pub fn new(alloc: Global, desks: Vec<Desk>) -> Result<PlainDesks, OutOfMemory>
         requires { AreNew desks.items }
-        ensures desks { IfOk result (λ all. all ≡ record { desks = desks.items; made = replicate (length desks.items) 0 }) }
+        ensures desks { let made = replicate (length desks.items) 0 in
+            IfOk result (λ all. all ≡ record { desks = desks.items; made = made }) }
         ensures plain { IfOk result IsPlain }
         ensures first { IfOk result (λ all. IsFirst (world_of all)) }
     {
@@ -69,7 +70,8 @@ impl PlainDesks {
     pub fn len(&self) -> u32
         ensures count { result ≡ length self.now.desks }
         ensures plain { IsPlain self.now }
-        ensures met { (desk session : ℕ) → are_there self.now desk session ≡ true → Meets (world_of self.now) desk session }
+        ensures met { (desk session : ℕ) → are_there self.now desk session ≡ true →
+            Meets (world_of self.now) desk session }
     {
         self.desks.len() as u32
     }
@@ -109,7 +111,7 @@ impl Desks for PlainDesks {
         tables: Option<SharedTables>,
     ) -> Begun {
         let stamp = next_stamp(&self.made, me);
-        let at = &mut self.desks[place_of(desk)];
+        let at = &mut self.desks[index_of(desk)];
         let before = at.len();
         let answer = at.begin(stamp, statement, text, version, plan, tables);
         let entries = at.len() - before;
@@ -119,7 +121,7 @@ impl Desks for PlainDesks {
 
     fn point<R: Running>(&mut self, desk: u32, me: Caller, run: &mut R) -> Seen {
         let stamp = next_stamp(&self.made, me);
-        let at = &mut self.desks[place_of(desk)];
+        let at = &mut self.desks[index_of(desk)];
         let before = at.len();
         let answer = at.point(stamp, run);
         let entries = at.len() - before;
@@ -129,7 +131,7 @@ impl Desks for PlainDesks {
 
     fn look_own(&mut self, desk: u32, me: Caller) -> Seen {
         let stamp = next_stamp(&self.made, me);
-        let at = &mut self.desks[place_of(desk)];
+        let at = &mut self.desks[index_of(desk)];
         let before = at.len();
         let answer = at.look_own(stamp);
         let entries = at.len() - before;
@@ -145,7 +147,7 @@ impl Desks for PlainDesks {
         finish: Finish<R>,
     ) -> Ended {
         let stamp = next_stamp(&self.made, me);
-        let at = &mut self.desks[place_of(desk)];
+        let at = &mut self.desks[index_of(desk)];
         let before = at.len();
         let answer = at.end(stamp, statement, finish);
         let entries = at.len() - before;
@@ -155,7 +157,7 @@ impl Desks for PlainDesks {
 
     fn ask(&mut self, desk: u32, me: Caller, statement: u32, kind: AskKind, budget: u64) -> Asked {
         let stamp = next_stamp(&self.made, me);
-        let at = &mut self.desks[place_of(desk)];
+        let at = &mut self.desks[index_of(desk)];
         let before = at.len();
         let answer = at.ask(stamp, statement, kind, budget);
         let entries = at.len() - before;
@@ -165,7 +167,7 @@ impl Desks for PlainDesks {
 
     fn poll(&mut self, desk: u32, me: Caller, statement: u32) -> Polled {
         let stamp = next_stamp(&self.made, me);
-        let at = &mut self.desks[place_of(desk)];
+        let at = &mut self.desks[index_of(desk)];
         let before = at.len();
         let answer = at.poll(stamp, statement);
         let entries = at.len() - before;
@@ -175,7 +177,7 @@ impl Desks for PlainDesks {
 
     fn withdraw(&mut self, desk: u32, me: Caller, statement: u32) -> Withdrawn {
         let stamp = next_stamp(&self.made, me);
-        let at = &mut self.desks[place_of(desk)];
+        let at = &mut self.desks[index_of(desk)];
         let before = at.len();
         let answer = at.withdraw(stamp, statement);
         let entries = at.len() - before;
@@ -185,7 +187,7 @@ impl Desks for PlainDesks {
 
     fn kill(&mut self, desk: u32, me: Caller, statement: u32, kind: KillKind) -> Killed {
         let stamp = next_stamp(&self.made, me);
-        let at = &mut self.desks[place_of(desk)];
+        let at = &mut self.desks[index_of(desk)];
         let before = at.len();
         let answer = at.kill(stamp, statement, kind);
         let entries = at.len() - before;
@@ -195,7 +197,7 @@ impl Desks for PlainDesks {
 
     fn look(&mut self, desk: u32, me: Caller, statement: u32, at: u64, budget: u64) -> Looked {
         let stamp = next_stamp(&self.made, me);
-        let found = &mut self.desks[place_of(desk)];
+        let found = &mut self.desks[index_of(desk)];
         let before = found.len();
         let answer = found.look(stamp, statement, at, budget);
         let entries = found.len() - before;
@@ -205,7 +207,7 @@ impl Desks for PlainDesks {
 
     fn close(&mut self, desk: u32, me: Caller) {
         let stamp = next_stamp(&self.made, me);
-        let at = &mut self.desks[place_of(desk)];
+        let at = &mut self.desks[index_of(desk)];
         let before = at.len();
         at.close(stamp);
         let entries = at.len() - before;
@@ -218,11 +220,12 @@ fn next_stamp(made: &ArrayVec<u32, 16>, me: Caller) -> Stamp
     requires least { 1 ≤ me.actor }
     requires most { me.actor ≤ array_vec_len made.now }
     requires numbers { slice_index made.now.items (me.actor - 1) + 1 < 2 ^ 32 }
-    ensures { result ≡ record { actor = me.actor; seq = slice_index made.now.items (me.actor - 1) + 1; turn = me.turn } }
+    ensures { let seq = slice_index made.now.items (me.actor - 1) + 1 in
+        result ≡ record { actor = me.actor; seq = seq; turn = me.turn } }
 {
     Stamp {
         actor: me.actor,
-        seq: made[place_of(me.actor)] + 1,
+        seq: made[index_of(me.actor)] + 1,
         turn: me.turn,
     }
 }
@@ -232,13 +235,14 @@ fn count(made: &mut ArrayVec<u32, 16>, session: u32, entries: u32)
     requires least { 1 ≤ session }
     requires most { session ≤ array_vec_len made.old }
     requires numbers { slice_index made.old.items (session - 1) + entries < 2 ^ 32 }
-    ensures { made.new.items ≡ slice_set made.old.items (session - 1) (slice_index made.old.items (session - 1) + entries) }
+    ensures { made.new.items ≡ slice_set made.old.items (session - 1)
+        (slice_index made.old.items (session - 1) + entries) }
 {
-    made[place_of(session)] += entries;
+    made[index_of(session)] += entries;
 }
 
 /// Where the desk, or the session, with this number stands in a list of all.
-fn place_of(number: u32) -> usize
+fn index_of(number: u32) -> usize
     requires { 1 ≤ number }
     ensures { result ≡ number - 1 }
 {

@@ -15,7 +15,7 @@ use Rattle.sa_desk.specs.declared.entry.Event.{Event}
 use Rattle.sa_desk.specs.declared.entry.Event.TheVariants.{Begin, Queued, Refused, Served, Taken, Spent, Withdrawn, KillSent, Waited, WaitSpent, End, Gone, Close}
 use Rattle.sa_desk.specs.declared.request.Request.{Request}
 use Rattle.sa_desk.specs.declared.request.Reply.{Reply}
-use Rattle.sa_desk.specs.State.{Terms, Statement, Execution, Phase, idle, plain, planned, serving, closed, State, start, queue_of}
+use Rattle.sa_desk.specs.State.{Terms, Statement, Execution, Phase, idle, unplanned, planned, serving, closed, State, start, queue_of}
 use Rattle.sa_desk.specs.Comes.{ComesIn, Comes, ServesFirst}
 use Rattle.sa_desk.specs.After.{after_event, after, begun, served, showing, without}
 use Rattle.sa_desk.specs.Runs.{state_of, Runs}
@@ -42,7 +42,7 @@ pub record TellsRun (terms : Terms) (before : List Entry) (statement : Statement
   pub asked : All (λ request. IsAsked statement_is.on.since request.asker request.request request.at) queue
 
 abbrev pub TellsIn : Terms → List Entry → Phase → Type 0
-TellsIn terms before (plain statement) = Tells terms before statement
+TellsIn terms before (unplanned statement) = Tells terms before statement
 TellsIn terms before (planned statement execution) = TellsRun terms before statement execution.plan execution.tables execution.queue
 TellsIn terms before (serving statement execution steps turn) = TellsRun terms before statement execution.plan execution.tables execution.queue
 TellsIn terms before phase = ⊤
@@ -253,7 +253,7 @@ module _ (terms : Terms) (before : List Entry) (doomed : Bool) (replies : List R
   on_quiet : (phase : Phase) (event : Event) → IsWithin event → is_kill event ≡ false → ((session : ℕ) → word_by session actor event ≡ None)
       → TellsIn terms before phase → TellsIn terms (before ++ the_entry event ∷ []) phase
   on_quiet idle event within quiet silent tells = tt
-  on_quiet (plain statement) event within quiet silent tells = tells_more terms before statement (the_entry event) within quiet tells
+  on_quiet (unplanned statement) event within quiet silent tells = tells_more terms before statement (the_entry event) within quiet tells
   on_quiet (planned statement execution) event within quiet silent tells =
       run_more terms before execution.plan execution.tables execution.queue statement (the_entry event) within quiet (λ k d at. silent (slice_index_or execution.queue k d).asker) tells
   on_quiet (serving statement execution steps at) event within quiet silent tells =
@@ -262,14 +262,14 @@ module _ (terms : Terms) (before : List Entry) (doomed : Bool) (replies : List R
 
   on_shown : (phase : Phase) (steps : ℕ) → TellsIn terms before phase → TellsIn terms before (showing phase steps)
   on_shown idle steps tells = tells
-  on_shown (plain statement) steps tells = tells
+  on_shown (unplanned statement) steps tells = tells
   on_shown (planned statement execution) steps tells = tells
   on_shown (serving statement execution shown at) steps tells = tells
   on_shown closed steps tells = tells
 
   on_kill : (phase : Phase) (number : ℕ) (kind : KillKind) → Goal phase (KillSent number kind)
   on_kill idle number kind comes stand tells = tt
-  on_kill (plain statement) number kind comes stand tells = tells_kill terms before statement (the_entry (KillSent number kind)) tt refl tells
+  on_kill (unplanned statement) number kind comes stand tells = tells_kill terms before statement (the_entry (KillSent number kind)) tt refl tells
   on_kill (planned statement execution) number kind comes stand tells =
       run_kill terms before execution.plan execution.tables execution.queue statement (the_entry (KillSent number kind)) tt refl (λ k d within. refl) tells
   on_kill (serving statement execution steps at) number kind comes stand tells = absurd comes
@@ -277,7 +277,7 @@ module _ (terms : Terms) (before : List Entry) (doomed : Bool) (replies : List R
 
   on_taken : (phase : Phase) (number : ℕ) → Goal phase (Taken number)
   on_taken idle number comes stand tells = tt
-  on_taken (plain statement) number comes stand tells = tells_more terms before statement (the_entry (Taken number)) tt refl tells
+  on_taken (unplanned statement) number comes stand tells = tells_more terms before statement (the_entry (Taken number)) tt refl tells
   on_taken (planned statement execution) number comes stand tells =
       let others : All (λ request. request.asker ≢ actor) execution.queue = served_waits_not (stand actor).0 actor number execution.queue replies comes (stand actor).1 in
       run_more terms before execution.plan execution.tables execution.queue statement (the_entry (Taken number)) tt refl

@@ -40,7 +40,7 @@ others_leave before later desk session other at entries left call apart was is =
     ∙ seen_own later at session is ∙ ap (standing_on at) mine ∙ sym (seen_own before at session was) ∙ sym (append-nil (made_by session seen)) in
     record {
       mine = mine;
-      quiet = λ place. call.others_quiet session place apart;
+      quiet = λ index. call.others_quiet session index apart;
       terms = call.same_terms;
       shares = call.same_shares;
       more = grown.0;

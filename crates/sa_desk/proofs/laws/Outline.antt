@@ -6,7 +6,7 @@ use Rattle.sa_desk.specs.declared.entry.Entry.{Entry}
 use Rattle.sa_desk.specs.declared.entry.Event.{Event}
 use Rattle.sa_desk.specs.declared.entry.Event.TheVariants.{Begin, Queued, Refused, Served, Taken, Spent, Withdrawn, KillSent, Waited, WaitSpent, End, Gone, Close}
 use Rattle.sa_desk.specs.declared.request.Request.{Request}
-use Rattle.sa_desk.specs.State.{Terms, Statement, Execution, Phase, idle, plain, planned, serving, closed, State, start}
+use Rattle.sa_desk.specs.State.{Terms, Statement, Execution, Phase, idle, unplanned, planned, serving, closed, State, start}
 use Rattle.sa_desk.specs.Comes.{ComesIn}
 use Rattle.sa_desk.specs.After.{after_event, after, queued, showing, taken_out, killed, served, after_serving}
 use Rattle.sa_desk.specs.Runs.{Runs, state_after, state_of, IsDeskRun}
@@ -16,28 +16,28 @@ use Rattle.sa_desk.specs.Own.{Outline, free, running, outline, own_event, own_fr
 -- what leaves the outline as it is
 outline-queued : (phase : Phase) (request : Request) → outline (queued phase request) ≡ outline phase
 outline-queued idle request = refl
-outline-queued (plain s) request = refl
+outline-queued (unplanned s) request = refl
 outline-queued (planned s e) request = refl
 outline-queued (serving s e steps turn) request = refl
 outline-queued closed request = refl
 
 outline-showing : (phase : Phase) (steps : ℕ) → outline (showing phase steps) ≡ outline phase
 outline-showing idle steps = refl
-outline-showing (plain s) steps = refl
+outline-showing (unplanned s) steps = refl
 outline-showing (planned s e) steps = refl
 outline-showing (serving s e n turn) steps = refl
 outline-showing closed steps = refl
 
 outline-taken_out : (phase : Phase) (actor : ℕ) → outline (taken_out phase actor) ≡ outline phase
 outline-taken_out idle actor = refl
-outline-taken_out (plain s) actor = refl
+outline-taken_out (unplanned s) actor = refl
 outline-taken_out (planned s e) actor = refl
 outline-taken_out (serving s e n turn) actor = refl
 outline-taken_out closed actor = refl
 
 outline-killed : (phase : Phase) → outline (killed phase) ≡ outline phase
 outline-killed idle = refl
-outline-killed (plain s) = refl
+outline-killed (unplanned s) = refl
 outline-killed (planned s e) = refl
 outline-killed (serving s e n turn) = refl
 outline-killed closed = refl
@@ -50,7 +50,7 @@ outline-served quantum s e (first ∷ next ∷ rest) steps turn = refl
 
 outline-serving : (quantum : ℕ) (phase : Phase) (steps turn : ℕ) → outline (after_serving quantum phase steps turn) ≡ outline phase
 outline-serving quantum idle steps turn = refl
-outline-serving quantum (plain s) steps turn = refl
+outline-serving quantum (unplanned s) steps turn = refl
 outline-serving quantum (planned s e) steps turn = outline-served quantum s e e.queue steps turn
 outline-serving quantum (serving s e n at) steps turn = outline-served quantum s e e.queue steps turn
 outline-serving quantum closed steps turn = refl
@@ -78,17 +78,17 @@ outline-after terms state entry Close = refl
 others_leave : (terms : Terms) (state : State) (entry : Entry) (phase : Phase) (event : Event) (was : Outline) → entry.actor ≢ terms.desk
     → ComesIn terms state entry phase event → own_event was entry event ≡ was
 others_leave terms state entry idle (Begin number text version plan tables) was other comes = absurd (other comes.0)
-others_leave terms state entry (plain s) (Begin number text version plan tables) was other comes = absurd comes
+others_leave terms state entry (unplanned s) (Begin number text version plan tables) was other comes = absurd comes
 others_leave terms state entry (planned s e) (Begin number text version plan tables) was other comes = absurd comes
 others_leave terms state entry (serving s e n turn) (Begin number text version plan tables) was other comes = absurd comes
 others_leave terms state entry closed (Begin number text version plan tables) was other comes = absurd comes
 others_leave terms state entry idle (End number outcome steps) was other comes = absurd comes
-others_leave terms state entry (plain s) (End number outcome steps) was other comes = absurd (other comes.0.own)
+others_leave terms state entry (unplanned s) (End number outcome steps) was other comes = absurd (other comes.0.own)
 others_leave terms state entry (planned s e) (End number outcome steps) was other comes = absurd (other comes.0.own)
 others_leave terms state entry (serving s e n turn) (End number outcome steps) was other comes = absurd comes
 others_leave terms state entry closed (End number outcome steps) was other comes = absurd comes
 others_leave terms state entry idle Close was other comes = absurd (other comes)
-others_leave terms state entry (plain s) Close was other comes = absurd comes
+others_leave terms state entry (unplanned s) Close was other comes = absurd comes
 others_leave terms state entry (planned s e) Close was other comes = absurd comes
 others_leave terms state entry (serving s e n turn) Close was other comes = absurd comes
 others_leave terms state entry closed Close was other comes = absurd comes

@@ -3,7 +3,7 @@ use Rattle.std.proofs.Common.{◌≡◌, ◌≢◌, true, List, ◌++◌, All, r
 use Rattle.sa_desk.specs.declared.entry.Entry.{Entry}
 use Rattle.sa_desk.specs.declared.entry.Event.{Event}
 use Rattle.sa_desk.specs.declared.entry.Event.TheVariants.{KillSent, Waited}
-use Rattle.sa_desk.specs.State.{Terms, State, Phase, plain, planned, start}
+use Rattle.sa_desk.specs.State.{Terms, State, Phase, unplanned, planned, start}
 use Rattle.sa_desk.specs.Comes.{ComesIn}
 use Rattle.sa_desk.specs.After.{after_event, killed, showing}
 use Rattle.sa_desk.specs.Runs.{state_of, IsDeskRun}
@@ -12,9 +12,9 @@ use Rattle.sa_desk.proofs.Append.{Runs-parts, state_of-append, kept_along}
 
 stands_in : (terms : Terms) (state : State) (entry : Entry) (phase : Phase) (event : Event) → entry.actor ≢ terms.desk → phase ≡ state.phase
     → ComesIn terms state entry phase event → is_killed phase ≡ true → is_killed (after_event terms state entry event).phase ≡ true
-stands_in terms state entry (plain s) (KillSent number kind) other same comes stands = subst (λ phase. is_killed (killed phase) ≡ true) same refl
+stands_in terms state entry (unplanned s) (KillSent number kind) other same comes stands = subst (λ phase. is_killed (killed phase) ≡ true) same refl
 stands_in terms state entry (planned s e) (KillSent number kind) other same comes stands = subst (λ phase. is_killed (killed phase) ≡ true) same refl
-stands_in terms state entry (plain s) (Waited number steps) other same comes stands = subst (λ phase. is_killed (showing phase steps) ≡ true) same stands
+stands_in terms state entry (unplanned s) (Waited number steps) other same comes stands = subst (λ phase. is_killed (showing phase steps) ≡ true) same stands
 stands_in terms state entry (planned s e) (Waited number steps) other same comes stands = subst (λ phase. is_killed (showing phase steps) ≡ true) same stands
 stands_in terms state entry phase event other same comes stands = search rules
 

@@ -11,7 +11,7 @@ use Rattle.sa_desk.specs.declared.entry.Event.{Event}
 use Rattle.sa_desk.specs.declared.entry.Event.TheVariants.{Begin, Queued, Refused, Served, Taken, Spent, Withdrawn, KillSent, Waited, WaitSpent, End, Gone, Close}
 use Rattle.sa_desk.specs.declared.request.Request.{Request}
 use Rattle.sa_desk.specs.declared.request.Reply.{Reply}
-use Rattle.sa_desk.specs.State.{Terms, Statement, Execution, Phase, idle, plain, planned, serving, State, start, queue_of}
+use Rattle.sa_desk.specs.State.{Terms, Statement, Execution, Phase, idle, unplanned, planned, serving, State, start, queue_of}
 use Rattle.sa_desk.specs.Comes.{ComesIn, Comes, IsQueued, IsServed, ServesFirst}
 use Rattle.sa_desk.specs.After.{after_event, after, begun, served, without, untaken}
 use Rattle.sa_desk.specs.Runs.{Runs, IsDeskRun}
@@ -271,7 +271,7 @@ module _ (terms : Terms) (session : ℕ) (standing : Standing) (doomed : Bool) (
   led_after phase (KillSent number kind) comes stands = on_kill phase number kind comes stands
   led_after phase (Waited number steps) comes stands = on_waited phase number steps comes stands
   led_after phase (WaitSpent number steps turns) comes stands = on_wait_spent phase number steps turns comes stands
-  led_after (plain statement) (End number outcome steps) comes stands = stands
+  led_after (unplanned statement) (End number outcome steps) comes stands = stands
   led_after (planned statement execution) (End number outcome steps) comes stands =
       subst (λ waits. Stands session standing waits replies) comes.1.served stands
   led_after phase (End number outcome steps) comes stands = absurd comes

@@ -13,8 +13,8 @@ use Rattle.sa_desk.specs.State.{Statement, idle}
 use Rattle.sa_desk.specs.Comes.{Comes}
 use Rattle.sa_desk.specs.After.{begun, after}
 use Rattle.sa_desk.specs.Contents.{state, phase, IsCaller, IsOwner, HasRoom, entry_by}
-use Rattle.sa_desk.specs.Desk.{contents_of, kept_of, IsReady}
-use Rattle.sa_desk.specs.Parts.{begun_with}
+use Rattle.sa_desk.specs.inner.Desk.{contents_of, kept_of, IsReady}
+use Rattle.sa_desk.specs.inner.Parts.{begun_with}
 use Rattle.sa_desk.proofs.Keeps.{Keeps, FieldsKeep, FieldsKeep-ready, AreCounts-ready, IsReady-push, at_idle, when_idle}
 
 -- The fields keep the phase of a statement that has just begun.

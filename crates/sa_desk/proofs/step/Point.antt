@@ -10,8 +10,8 @@ use Rattle.sa_desk.specs.declared.entry.Entry.{Entry}
 use Rattle.sa_desk.specs.declared.stamp.Stamp.{Stamp}
 use Rattle.sa_desk.specs.State.{Statement, Execution, Phase, planned, State, IsPublished, IsLawful, queue_of, IsSettled}
 use Rattle.sa_desk.specs.Contents.{Contents, state, phase}
-use Rattle.sa_desk.specs.Desk.{contents_of, outline, IsReady}
-use Rattle.sa_desk.specs.Parts.{answers_with, served_from, begin_in}
+use Rattle.sa_desk.specs.inner.Desk.{contents_of, held_phase, IsReady}
+use Rattle.sa_desk.specs.inner.Parts.{answers_with, served_from, begin_in}
 use Rattle.sa_desk.specs.Serving.{report_of, served_entries, IsRunOf, begin_turn}
 use Rattle.sa_desk.specs.call.End.{IsTimely}
 use Rattle.sa_desk.specs.call.Point.{MayPoint, after_point}
@@ -76,7 +76,7 @@ module _ (old : Inside) (stamp : Stamp) (run : Progress) (ready : IsReady old) (
   keeps statement execution on is within =
       let lawful : IsPublished old.quantum execution old.published = subst (λ (now : Phase). IsLawful old.quantum now old.published) on ready.sound.lawful in
       let free : execution.owed ≡ None = subst IsSettled on ready.sound.run.settled in
-      let held : old.phase ≡ outline (planned statement execution) = ready.phase_is ∙ ap outline on in
+      let held : old.phase ≡ held_phase (planned statement execution) = ready.phase_is ∙ ap held_phase on in
       let queue : old.queue.items ≡ execution.queue = ready.queue ∙ ap queue_of on in
       record {
         settled = all_served-whole old.quantum execution (report_of run) old.published stamp.turn execution.queue may.steps ∙ free;

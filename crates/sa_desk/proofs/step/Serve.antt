@@ -10,14 +10,14 @@ use Rattle.sa_desk.specs.declared.entry.Event.TheVariants.{Served}
 use Rattle.sa_desk.specs.declared.request.Request.{Request}
 use Rattle.sa_desk.specs.declared.request.Reply.{Reply}
 use Rattle.sa_desk.specs.declared.stamp.Stamp.{Stamp}
-use Rattle.sa_desk.specs.State.{Terms, Statement, Execution, Phase, idle, plain, planned, serving, closed, State, queue_of}
+use Rattle.sa_desk.specs.State.{Terms, Statement, Execution, Phase, idle, unplanned, planned, serving, closed, State, queue_of}
 use Rattle.sa_desk.specs.Comes.{Serves, Comes}
 use Rattle.sa_desk.specs.After.{after, still_serving, first_owed}
 use Rattle.sa_desk.specs.Runs.{state_after, Runs}
 use Rattle.sa_desk.specs.Contents.{Contents, state, phase, IsSound, IsOwner, entry_by, later}
 use Rattle.sa_desk.specs.Serving.{report_of, served_with, served_entries, IsRunOf, begin_turn}
 use Rattle.sa_desk.specs.call.End.{IsTimely}
-use Rattle.sa_desk.specs.Parts.{answers_with, served_from}
+use Rattle.sa_desk.specs.inner.Parts.{answers_with, served_from}
 use Rattle.sa_desk.proofs.Queue.{AllAt, queued_at_published}
 use Rattle.sa_desk.proofs.Grown.{IsBy}
 
@@ -212,7 +212,7 @@ served-same desk report stamp queue same = served_from-with desk report stamp qu
 -- A run is of a statement with a plan.
 pub on_planned : (now : Phase) (run : Progress) → IsRunOf now run → (statement : Statement) × (execution : Execution) × (now ≡ planned statement execution) × IsRunOf (planned statement execution) run
 on_planned idle run is = absurd is
-on_planned (plain statement) run is = absurd is
+on_planned (unplanned statement) run is = absurd is
 on_planned (planned statement execution) run is = (statement, execution, refl, is)
 on_planned (serving statement execution steps turn) run is = absurd is
 on_planned closed run is = absurd is

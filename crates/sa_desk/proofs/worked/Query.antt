@@ -60,13 +60,13 @@ module _ (given : Open) where
   abbrev pub all_rows : Outcome
   all_rows = Rows (given.column ∷ []) ((Int (pos 1) ∷ []) ∷ (Int (pos 2) ∷ []) ∷ (Int (pos 3) ∷ []) ∷ [])
 
--- Entries are counted from 1. The journal with another entry at this place, without the entry there, with that entry and the
+-- Entries are counted from 1. The journal with another entry at this index, without the entry there, with that entry and the
 -- next one exchanged, and with a further entry behind it.
 abbrev pub changed : ℕ → Entry → List Entry → List Entry
-changed place entry journal = take (place - 1) journal ++ entry ∷ drop place journal
+changed index entry journal = take (index - 1) journal ++ entry ∷ drop index journal
 
 abbrev pub dropped : ℕ → List Entry → List Entry
-dropped place journal = take (place - 1) journal ++ drop place journal
+dropped index journal = take (index - 1) journal ++ drop index journal
 
 abbrev pub swapped : List Entry → List Entry
 swapped [] = []
@@ -74,10 +74,10 @@ swapped (first ∷ []) = first ∷ []
 swapped (first ∷ second ∷ rest) = second ∷ first ∷ rest
 
 abbrev pub exchanged : ℕ → List Entry → List Entry
-exchanged place journal = take (place - 1) journal ++ swapped (drop (place - 1) journal)
+exchanged index journal = take (index - 1) journal ++ swapped (drop (index - 1) journal)
 
 abbrev pub inserted : ℕ → Entry → List Entry → List Entry
-inserted place entry journal = take place journal ++ entry ∷ drop place journal
+inserted index entry journal = take index journal ++ entry ∷ drop index journal
 
 -- No desk with these terms writes this journal.
 abbrev pub IsRefused : Terms → List Entry → Type 0

@@ -34,9 +34,11 @@ impl Desk {
         plan: Option<SharedPlan>,
         tables: Option<SharedTables>,
     ) -> Begun
-        requires { MayBegin self.old stamp (Event.Begin statement text version plan tables) statement version plan tables }
+        requires { MayBegin self.old stamp (Event.Begin statement text version plan tables) statement
+            version plan tables }
         ensures answer { result ≡ begin_answer (state self.old).doomed }
-        ensures desk { self.new ≡ after_begin self.old stamp (Event.Begin statement text version plan tables) statement }
+        ensures desk { self.new ≡ after_begin self.old stamp (Event.Begin statement text version plan tables)
+            statement }
         ensures sound { IsSound self.new }
     {
         if self.doomed {
@@ -110,7 +112,8 @@ impl Desk {
         requires end { MayEnd R.progress self.old stamp statement finish }
         requires numbers { HasNumbers stamp }
         ensures answer { result ≡ end_answer (is_killed (phase self.old)) }
-        ensures desk { self.new ≡ after_end self.old stamp statement (run_of R.progress finish) (outcome_of R.progress finish) }
+        ensures desk { self.new ≡ after_end self.old stamp statement (run_of R.progress finish)
+            (outcome_of R.progress finish) }
         ensures sound { IsSound self.new }
     {
         let server = Server {

@@ -97,7 +97,7 @@ module _ (tables : RunData) (texts : List (List ℕ)) (text : List ℕ) (report 
   pub spent_late : Between given 1 1 (shows Analyze 1) (queued ∷ at 1 3 9 (Spent 1 3) ∷ []) 9 (ends (outcome.TimedOut 3)) → ⊥
   spent_late row = search rules
 
-  -- or withdrawn, at the earliest in place of the second poll
+  -- or withdrawn, at the earliest in index of the second poll
   pub withdrawn : Between given 1 1 (shows Analyze 1) (queued ∷ at 1 3 5 (Withdrawn 1) ∷ []) 5 (ends outcome.Interrupted)
   withdrawn = search rules
 

@@ -2,8 +2,8 @@ use Rattle.std.proofs.Common.{◌≡◌, true, false, [], ◌∷◌, ◌++◌, c
 use Rattle.sa_desk.specs.declared.entry.Event.TheVariants.{Begin, Gone}
 use Rattle.sa_desk.specs.Comes.{Comes}
 use Rattle.sa_desk.specs.Contents.{state, HasRoom, entry_by}
-use Rattle.sa_desk.specs.Desk.{contents_of}
-use Rattle.sa_desk.specs.Parts.{begun_with}
+use Rattle.sa_desk.specs.inner.Desk.{contents_of}
+use Rattle.sa_desk.specs.inner.Parts.{begun_with}
 use Rattle.sa_desk.specs.call.Begin.{MayBegin, after_begin}
 use Rattle.sa_desk.proofs.Grown.{IsJournal-push}
 use Rattle.sa_desk.proofs.Keeps.{at_idle, with_journal}

@@ -1,6 +1,6 @@
 use Rattle.std.proofs.Common.{◌<◌, ◌^◌, subst, arith, rules}
 use Rattle.sa_desk.specs.Contents.{IsSound}
-use Rattle.sa_desk.specs.Desk.{contents_of}
+use Rattle.sa_desk.specs.inner.Desk.{contents_of}
 use Rattle.sa_desk.proofs.Capacity.{sound_fits}
 use Rattle.sa_desk.proofs.desk.Desk.len.Goals as goal
 

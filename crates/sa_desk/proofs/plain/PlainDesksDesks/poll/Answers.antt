@@ -1,6 +1,6 @@
 use Rattle.sa_desk.specs.Plain.{desk_at}
 use Rattle.std.proofs.Common.{slice_set, length-set, arith}
-use Rattle.sa_desk.specs.PlainDesks.{plain_of}
+use Rattle.sa_desk.specs.inner.PlainDesks.{plain_of}
 use Rattle.sa_desk.specs.call.Poll.{poll_entries, after_poll}
 use Rattle.sa_desk.proofs.CallLeft.{poll-left, stamp_of}
 use Rattle.sa_desk.proofs.Called.{Calls, IsDone, numbers_before, done_as}
@@ -13,7 +13,7 @@ next_stamp-stamp-requires-clause-numbers c = omega (arith, numbers_before (plain
 module _ (c : goal.After-count) where
   abbrev calls : Calls (plain_of c.self.inside) c.args.desk c.args.me (λ at stamp. after_poll at stamp c.args.statement) c.index_mut-at.result.now c.next_stamp-stamp.result c.poll-answer.new.self c.len-before.result c.len.result
   calls = record {
-    takes = record { place = c.place_of.result; place_is = c.place_of.ensures; at_is = c.index_mut-at.ensures.value; stamp_is = c.next_stamp-stamp.ensures };
+    takes = record { index = c.index_of.result; index_is = c.index_of.ensures; at_is = c.index_mut-at.ensures.value; stamp_is = c.next_stamp-stamp.ensures };
     new_is = c.poll-answer.ensures.desk;
     sound = c.poll-answer.ensures.sound;
     had_is = c.len-before.ensures.count;
@@ -21,7 +21,7 @@ module _ (c : goal.After-count) where
   }
 
   done : IsDone c.args.self.now c.args.desk c.args.me (λ at stamp. poll_entries at stamp c.args.statement) (λ at stamp. after_poll at stamp c.args.statement)
-      (record { desks = slice_set c.self.inside.desks.items c.place_of.result c.poll-answer.new.self; made = c.count.new.made.items })
+      (record { desks = slice_set c.self.inside.desks.items c.index_of.result c.poll-answer.new.self; made = c.count.new.made.items })
   done =
       done_as (plain_of c.self.inside) c.args.self.now c.self.view_is c.self.invariant.plain c.args.desk c.args.me c.requires.allowed
       (λ at stamp. poll_entries at stamp c.args.statement) (λ at stamp. after_poll at stamp c.args.statement)
@@ -32,7 +32,7 @@ pub invariant_of-self : goal.invariant_of-self
 invariant_of-self c = record {
   plain = (done c).kept;
   unused = c.self.invariant.unused;
-  room = rw (length-set c.self.inside.desks.items c.place_of.result c.poll-answer.new.self) c.self.invariant.room;
+  room = rw (length-set c.self.inside.desks.items c.index_of.result c.poll-answer.new.self) c.self.invariant.room;
 }
 
 pub returns-clause-call : goal.returns-clause-call

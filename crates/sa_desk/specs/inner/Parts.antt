@@ -4,7 +4,7 @@ use Rattle.sa_count.specs.declared.report.Report.{Report}
 use Rattle.sa_desk.specs.declared.answer.Asked.{Asked}
 use Rattle.sa_desk.specs.declared.answer.Asked.TheVariants.{Queued, NotExplainable, NoSuchThread}
 use Rattle.sa_desk.specs.declared.phase.Phase.{Phase}
-use Rattle.sa_desk.specs.declared.phase.Phase.TheVariants.{Idle, Plain, Planned, Closed}
+use Rattle.sa_desk.specs.declared.phase.Phase.TheVariants.{Idle, Unplanned, Planned, Closed}
 use Rattle.sa_desk.specs.declared.phase.On.{On}
 use Rattle.sa_desk.specs.declared.request.Request.{Request}
 use Rattle.sa_desk.specs.declared.request.Reply.{Reply}
@@ -21,7 +21,7 @@ use Rattle.sa_desk.specs.Contents.{later}
 -- what a request is answered in this phase
 abbrev pub answer_in : Phase → Asked
 answer_in Idle = NotExplainable
-answer_in (Plain on) = NotExplainable
+answer_in (Unplanned on) = NotExplainable
 answer_in (Planned on) = Queued
 answer_in Closed = NoSuchThread
 
@@ -34,17 +34,17 @@ put_last NoSuchThread request queue = queue
 -- a statement has begun, with a plan or without
 abbrev pub begun_with : Bool → On → Phase
 begun_with true on = Planned on
-begun_with false on = Plain on
+begun_with false on = Unplanned on
 
 -- whether a kill stands for the statement that is on
 abbrev pub kill_stands : Phase → Bool
-kill_stands (Plain on) = on.killed
+kill_stands (Unplanned on) = on.killed
 kill_stands (Planned on) = on.killed
 kill_stands phase = false
 
 -- the number of the Begin entry of the statement that is on
 abbrev pub begin_in : Phase → ℕ
-begin_in (Plain on) = on.begin
+begin_in (Unplanned on) = on.begin
 begin_in (Planned on) = on.begin
 begin_in phase = 0
 
@@ -85,7 +85,7 @@ steps_in (Some report) = report.steps
 
 -- The statement that is on, if one is, is killed.
 abbrev pub killed_in : Phase → Phase
-killed_in (Plain on) = Plain (record on { killed = true })
+killed_in (Unplanned on) = Unplanned (record on { killed = true })
 killed_in (Planned on) = Planned (record on { killed = true })
 killed_in phase = phase
 

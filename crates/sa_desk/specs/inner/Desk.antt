@@ -3,9 +3,9 @@ use Rattle.std.specs.Prelude.{◌≡◌, ◌≤◌, sum}
 use Rattle.std.specs.Vec.{vec_capacity}
 use Rattle.sa_desk.specs.declared.desk.Desk.TheInside.{Inside}
 use Rattle.sa_desk.specs.declared.phase.Phase as held
-use Rattle.sa_desk.specs.declared.phase.Phase.TheVariants.{Idle, Plain, Planned, Closed}
+use Rattle.sa_desk.specs.declared.phase.Phase.TheVariants.{Idle, Unplanned, Planned, Closed}
 use Rattle.sa_desk.specs.declared.phase.On.{On}
-use Rattle.sa_desk.specs.State.{Statement, Phase, idle, plain, planned, serving, closed, queue_of}
+use Rattle.sa_desk.specs.State.{Statement, Phase, idle, unplanned, planned, serving, closed, queue_of}
 use Rattle.sa_desk.specs.Contents.{Contents, IsSound, state, phase}
 
 -- the contents that the fields stand for
@@ -24,17 +24,17 @@ abbrev pub kept_of : Statement → On
 kept_of statement = record { statement = statement.number; begin = statement.begin; killed = statement.killed }
 
 -- what a desk keeps of a phase
-abbrev pub outline : Phase → held.Phase
-outline idle = Idle
-outline (plain statement) = Plain (kept_of statement)
-outline (planned statement execution) = Planned (kept_of statement)
-outline (serving statement execution steps turn) = Planned (kept_of statement)
-outline closed = Closed
+abbrev pub held_phase : Phase → held.Phase
+held_phase idle = Idle
+held_phase (unplanned statement) = Unplanned (kept_of statement)
+held_phase (planned statement execution) = Planned (kept_of statement)
+held_phase (serving statement execution steps turn) = Planned (kept_of statement)
+held_phase closed = Closed
 
 -- The contents are sound, the other fields keep what the journal leaves, and the journal has room for all shares.
 pub record IsReady (desk : Inside) : Type 0 where
   pub sound : IsSound (contents_of desk)
-  pub phase_is : desk.phase ≡ outline (phase (contents_of desk))
+  pub phase_is : desk.phase ≡ held_phase (phase (contents_of desk))
   pub doomed : desk.doomed ≡ (state (contents_of desk)).doomed
   pub queue : desk.queue.items ≡ queue_of (phase (contents_of desk))
   pub replies : desk.replies.items ≡ (state (contents_of desk)).replies
