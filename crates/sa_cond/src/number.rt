@@ -11,7 +11,10 @@ use crate::expr::Expr;
 use sa_value::ValueRef;
 
 /// The number of an expression, if it is one of 64 bits. NULL, a text and a sum that leaves 64 bits are none.
-pub(crate) fn number<R: Cells>(expr: &Expr, rows: &R) -> Option<i64>
+///
+/// Where an operand is a column or a literal the node above reads it, without a call.
+#[cycle(number)]
+fn number<R: Cells>(expr: &Expr, rows: &R) -> Option<i64>
     requires there { All (IsThere (R.has_cell rows.now) (R.has_slot rows.now)) (expr_names expr.now) }
     requires typed { CanEvaluate (record { cell = R.cell_of rows.now; slot = R.slot_of rows.now })
         expr.now }
@@ -22,10 +25,31 @@ pub(crate) fn number<R: Cells>(expr: &Expr, rows: &R) -> Option<i64>
         Expr::Column { table, column } => small(rows.cell(*table, *column)),
         Expr::Slot(number) => small(rows.slot(*number)),
         Expr::Literal(value) => small(value.view()),
-        Expr::Negate(x) => Some(-number(x.get(), rows)?),
-        Expr::Add(left, right) => Some(number(left.get(), rows)? + number(right.get(), rows)?),
-        Expr::Subtract(left, right) => Some(number(left.get(), rows)? - number(right.get(), rows)?),
-        Expr::Multiply(left, right) => Some(number(left.get(), rows)? * number(right.get(), rows)?),
+        Expr::Negate(x) => Some(-operand(x.get(), rows)?),
+        Expr::Add(left, right) => Some(operand(left.get(), rows)? + operand(right.get(), rows)?),
+        Expr::Subtract(left, right) => {
+            Some(operand(left.get(), rows)? - operand(right.get(), rows)?)
+        }
+        Expr::Multiply(left, right) => {
+            Some(operand(left.get(), rows)? * operand(right.get(), rows)?)
+        }
+    }
+}
+
+/// The same, with columns and literals read here.
+#[cycle(number)]
+#[inline(always)]
+pub(crate) fn operand<R: Cells>(expr: &Expr, rows: &R) -> Option<i64>
+    requires there { All (IsThere (R.has_cell rows.now) (R.has_slot rows.now)) (expr_names expr.now) }
+    requires typed { CanEvaluate (record { cell = R.cell_of rows.now; slot = R.slot_of rows.now })
+        expr.now }
+    ensures { result ≡ small_number
+        (expr_value (record { cell = R.cell_of rows.now; slot = R.slot_of rows.now }) expr.now) }
+{
+    match expr {
+        Expr::Column { table, column } => small(rows.cell(*table, *column)),
+        Expr::Literal(value) => small(value.view()),
+        _ => number(expr, rows),
     }
 }
 

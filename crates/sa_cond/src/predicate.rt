@@ -6,9 +6,9 @@ ghost use Rattle.sa_cond.specs.Condition.{between as between_truth, among as amo
 ghost use Rattle.sa_cond.specs.inner.Compared.{CanRelate};
 
 use crate::cells::Cells;
-use crate::comparison::compared;
+use crate::comparison::compared_with;
 use crate::expr::Expr;
-use crate::number::number;
+use crate::number::operand;
 use crate::value::value_of;
 use sa_value::{CompareOp, Truth, ValueRef};
 
@@ -20,7 +20,7 @@ pub(crate) fn is_null<R: Cells>(expr: &Expr, rows: &R) -> bool
     ensures { result ≡ is_null_value
         (expr_value (record { cell = R.cell_of rows.now; slot = R.slot_of rows.now }) expr.now) }
 {
-    match number(expr, rows) {
+    match operand(expr, rows) {
         Some(_) => false,
         None => matches!(value_of(expr, rows), ValueRef::Null),
     }
@@ -40,13 +40,16 @@ pub(crate) fn between<R: Cells>(value: &Expr, low: &Expr, high: &Expr, rows: &R)
         (expr_value (record { cell = R.cell_of rows.now; slot = R.slot_of rows.now }) low.now)
         (expr_value (record { cell = R.cell_of rows.now; slot = R.slot_of rows.now }) high.now) }
 {
-    let from_low = compared(CompareOp::Ge, value, low, rows);
-    from_low.and(compared(CompareOp::Le, value, high, rows))
+    let number = operand(value, rows);
+    let from_low = compared_with(CompareOp::Ge, number, value, low, rows);
+    from_low.and(compared_with(CompareOp::Le, number, value, high, rows))
 }
 
 /// The truth of IN.
 pub(crate) fn among<R: Cells>(value: &Expr, list: &[Expr], rows: &R) -> Truth
     requires value_there { All (IsThere (R.has_cell rows.now) (R.has_slot rows.now)) (expr_names value.now) }
+    requires value_typed { CanEvaluate (record { cell = R.cell_of rows.now; slot = R.slot_of rows.now })
+        value.now }
     requires there { All (λ member. All (IsThere (R.has_cell rows.now) (R.has_slot rows.now))
         (expr_names member)) list.now }
     requires typed { All (CanRelate (record { cell = R.cell_of rows.now; slot = R.slot_of rows.now })
@@ -55,9 +58,10 @@ pub(crate) fn among<R: Cells>(value: &Expr, list: &[Expr], rows: &R) -> Truth
         (expr_value (record { cell = R.cell_of rows.now; slot = R.slot_of rows.now }) value.now)
         (map (expr_value (record { cell = R.cell_of rows.now; slot = R.slot_of rows.now })) list.now) }
 {
+    let number = operand(value, rows);
     let mut truth = Truth::False;
     for member in list {
-        truth = truth.or(compared(CompareOp::Eq, value, member, rows));
+        truth = truth.or(compared_with(CompareOp::Eq, number, value, member, rows));
         if truth == Truth::True {
             return Truth::True;
         }

@@ -6,7 +6,7 @@ ghost use Rattle.sa_cond.specs.Expression.{expr_value};
 
 use crate::cells::Cells;
 use crate::expr::Expr;
-use crate::number::number;
+use crate::number::operand;
 use sa_value::ValueRef;
 
 /// The value of an expression.
@@ -24,7 +24,7 @@ pub fn value_of<'a, R: Cells>(expr: &'a Expr, rows: &'a R) -> ValueRef<'a>
         Expr::Slot(number) => rows.slot(*number),
         Expr::Literal(value) => value.view(),
         Expr::Negate(_) | Expr::Add(_, _) | Expr::Subtract(_, _) | Expr::Multiply(_, _) => {
-            match number(expr, rows) {
+            match operand(expr, rows) {
                 None => ValueRef::Null,
                 Some(number) => ValueRef::Int(number),
             }

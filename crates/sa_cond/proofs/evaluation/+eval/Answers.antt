@@ -8,7 +8,7 @@ use Rattle.sa_cond.specs.Choice.{Choice}
 use Rattle.sa_cond.specs.Cited.{Name, IsThere, CanTest, cond_names, expr_names}
 use Rattle.sa_cond.specs.Condition.{holds}
 use Rattle.sa_cond.specs.inner.Compared.{CanRelate}
-use Rattle.sa_cond.proofs.Testing.{relates, relates_low, relates_high, is_null_names, is_null_can, not_null_names, not_null_can, value_names, member_names, member_can, and_names, and_can, or_names, or_can}
+use Rattle.sa_cond.proofs.Testing.{relates, relates_low, relates_high, is_null_names, is_null_can, not_null_names, not_null_can, value_names, member_names, member_can, value_can, and_names, and_can, or_names, or_can}
 use Rattle.sa_cond.proofs.Truths.{in_terms_of, and_next, or_next, further, decided, conjunction-False, disjunction-True, all_of-map, any_of-map}
 use Rattle.sa_cond.proofs.evaluation.+eval.Goals as goal
 
@@ -89,6 +89,12 @@ eval-among-requires-clause-value_there g t c =
     let there : Name → Type 0 = IsThere (g.R.Cells.has_cell c.args.rows.now) (g.R.Cells.has_slot c.args.rows.now) in
     let choice : Choice = record { cell = g.R.Cells.cell_of c.args.rows.now; slot = g.R.Cells.slot_of c.args.rows.now } in
     value_names there choice c.args.cond.now c.requires.there c.requires.typed c.in-Among.value c.in-Among.list c.in-Among.is
+
+pub eval-among-requires-clause-value_typed : goal.eval-among-requires-clause-value_typed
+eval-among-requires-clause-value_typed g t c =
+    let there : Name → Type 0 = IsThere (g.R.Cells.has_cell c.args.rows.now) (g.R.Cells.has_slot c.args.rows.now) in
+    let choice : Choice = record { cell = g.R.Cells.cell_of c.args.rows.now; slot = g.R.Cells.slot_of c.args.rows.now } in
+    value_can there choice c.args.cond.now c.requires.there c.requires.typed c.in-Among.value c.in-Among.list c.in-Among.is
 
 pub eval-among-requires-clause-there : goal.eval-among-requires-clause-there
 eval-among-requires-clause-there g t c =

@@ -21,8 +21,8 @@ returns-then-eq g c =
     let within : c.loop-member.member-index < length c.args.list.now = omega arith in
     let told : c.or-truth.result ≡ True = same_true the_type (search rules) _ _ (sym c.if-eq.ensures) in
     let next : c.or-truth.result ≡ disjunction (fold (or_next test) False (take c.loop-member.member-index c.args.list.now)) (test c.member-item.result) =
-    in_terms_of disjunction c.or-truth.result c.loop-member.truth c.compared.result (fold (or_next test) False (take c.loop-member.member-index c.args.list.now)) (test c.member-item.result)
-    c.or-truth.ensures c.loop-member.invariant c.compared.ensures in
+    in_terms_of disjunction c.or-truth.result c.loop-member.truth c.compared_with.result (fold (or_next test) False (take c.loop-member.member-index c.args.list.now)) (test c.member-item.result)
+    c.or-truth.ensures c.loop-member.invariant c.compared_with.ensures in
     sym (among-map value (expr_value choice) c.args.list.now
     ∙ decided (or_next test) False c.args.list.now c.loop-member.member-index c.member-item.result within c.member-item.is c.or-truth.result True (λ member. disjunction-True (test member)) next told)
 
@@ -33,6 +33,6 @@ loop-member-preserved g c =
     let test : Expr → Truth = λ member. truth_of Eq value (expr_value choice member) in
     let within : c.loop-member.member-index < length c.args.list.now = omega arith in
     let next : c.or-truth.result ≡ disjunction (fold (or_next test) False (take c.loop-member.member-index c.args.list.now)) (test c.member-item.result) =
-    in_terms_of disjunction c.or-truth.result c.loop-member.truth c.compared.result (fold (or_next test) False (take c.loop-member.member-index c.args.list.now)) (test c.member-item.result)
-    c.or-truth.ensures c.loop-member.invariant c.compared.ensures in
+    in_terms_of disjunction c.or-truth.result c.loop-member.truth c.compared_with.result (fold (or_next test) False (take c.loop-member.member-index c.args.list.now)) (test c.member-item.result)
+    c.or-truth.ensures c.loop-member.invariant c.compared_with.ensures in
     next ∙ sym (further (or_next test) False c.args.list.now c.loop-member.member-index c.member-item.result within c.member-item.is)
