@@ -4,15 +4,14 @@ pub mod CallLeftMore
 pub mod Called
 pub mod Capacity
 pub mod Changes
-pub mod Checks
 pub mod Counted
 pub mod Counts
 pub mod Grown
-pub mod Items
 pub mod Keeps
 pub mod Lists
 pub mod Numbered
 pub mod PlainCall
+pub mod PlainNew
 pub mod Queue
 pub mod Room
 pub mod Seats

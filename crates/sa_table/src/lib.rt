@@ -6,6 +6,11 @@
 
 mod def;
 mod fault;
+mod shared;
+mod stored;
+mod tables;
 
 pub use def::{ColumnDef, ColumnDefs, ColumnKind, KeyDef, KeyDefs, Parts, TableDef};
 pub use fault::{RowFault, TableFault};
+pub use shared::SharedTables;
+pub use tables::Tables;
