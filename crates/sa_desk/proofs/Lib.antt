@@ -17,5 +17,6 @@ pub mod Room
 pub mod Seats
 pub mod Sums
 pub mod laws
+pub mod program
 pub mod step
 pub mod worked
