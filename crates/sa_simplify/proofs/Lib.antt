@@ -1,0 +1,19 @@
+pub mod Lists
+pub mod Within
+pub mod NodeLemmas
+pub mod ExprLemmas
+pub mod Truths
+pub mod Refines
+pub mod TypedLemmas
+pub mod ExpandLemmas
+pub mod PushLemmas
+pub mod TurnLemmas
+pub mod DecideLemmas
+pub mod FlattenLemmas
+pub mod FoldLemmas
+pub mod FlattenLoop
+pub mod Amidst
+pub mod Handing
+pub mod PropagateLemmas
+pub mod SimpleLemmas
+mod worked

@@ -1,0 +1,10 @@
+pub mod Node
+pub mod Expand
+pub mod Push
+pub mod Fold
+pub mod Turn
+pub mod Decide
+pub mod Flatten
+pub mod Propagate
+pub mod Simple
+pub mod inner

@@ -1,0 +1,4 @@
+pub mod Leaf
+pub mod Added
+pub mod Arithmetic
+pub mod Equality
