@@ -5,3 +5,4 @@ pub mod Asks
 pub mod Waits
 pub mod Own
 pub mod Quiet
+pub mod May
