@@ -6,3 +6,4 @@ pub mod Waits
 pub mod Own
 pub mod Quiet
 pub mod May
+pub mod MayRun

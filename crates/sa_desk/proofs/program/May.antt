@@ -72,7 +72,7 @@ cost-begun true number version text plan tables = omega arith
 cost-begun false number version text plan tables = omega arith
 
 module _ (desk : Contents) (stamp : Stamp) where
-  one_most : (what : Event) (price : ℕ) → cost what ≤ price → charge stamp.actor (entry_by desk stamp what ∷ []) ≤ price
+  pub one_most : (what : Event) (price : ℕ) → cost what ≤ price → charge stamp.actor (entry_by desk stamp what ∷ []) ≤ price
   one_most what price least = let one = charge-one desk stamp what in omega (arith, one, least)
 
   charge-polled : (answer : Polled) (number : ℕ) → charge stamp.actor (map (entry_by desk stamp) (poll_events answer number)) ≤ 1
@@ -129,7 +129,7 @@ module _ (world : World) (me : Caller) (desk : ℕ) (knows : Knows world desk me
   caller : IsCaller found stamp
   caller = record { least = knows.least; most = subst (λ shares. me.actor ≤ length shares) (sym knows.met.shares) knows.most }
 
-  room : (entries : List Entry) (price : ℕ) → charge me.actor entries ≤ price → paid world desk me.actor + price ≤ share world desk me.actor → HasRoom found me.actor entries
+  pub room : (entries : List Entry) (price : ℕ) → charge me.actor entries ≤ price → paid world desk me.actor + price ≤ share world desk me.actor → HasRoom found me.actor entries
   room entries price least left =
       let both = charge-append me.actor found.journal entries in
       let own = charge-met world desk me.actor knows.met in
@@ -185,13 +185,13 @@ module _ (world : World) (me : Caller) (knows : Knows world me.actor me.actor) w
   abbrev own_desk : Contents
   own_desk = world.contents me.actor
 
-  owner : IsOwner own_desk (next_stamp world me)
+  pub owner : IsOwner own_desk (next_stamp world me)
   owner = sym knows.met.number
 
-  own_caller : IsCaller own_desk (next_stamp world me)
+  pub own_caller : IsCaller own_desk (next_stamp world me)
   own_caller = caller world me me.actor knows
 
-  told_outline : outline (phase own_desk) ≡ own_from free (standing_on me.actor (world.mine me.actor))
+  pub told_outline : outline (phase own_desk) ≡ own_from free (standing_on me.actor (world.mine me.actor))
   told_outline = outline-met world me.actor knows.met
 
   pub may_begin : (number version : ℕ) (text : List ℕ) (plan : Option Plan) (tables : Option RunData) → IsVersion version → AreGiven plan tables
