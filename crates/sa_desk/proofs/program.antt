@@ -5,3 +5,5 @@ pub mod Asks
 pub mod Waits
 pub mod Own
 pub mod Quiet
+pub mod May
+pub mod MayRun
