@@ -1,6 +1,6 @@
 -- The value of an expression on a choice of rows, over numbers without bounds.
 -- Source: MariaDB Knowledge Base, "Arithmetic Operators": an operand that is NULL gives NULL.
-use Rattle.std.specs.Prelude.{ℕ, ℤ, ◌+ℤ◌, ◌-ℤ◌, ◌*ℤ◌, neg_ℤ, Option, Some, None, option_map}
+use Rattle.std.specs.Prelude.{ℤ, ◌+ℤ◌, ◌-ℤ◌, ◌*ℤ◌, neg_ℤ, Option, Some, None, option_map}
 use Rattle.sa_value.specs.declared.value.Value.{Value}
 use Rattle.sa_value.specs.declared.value.Value.TheVariants.{Null, Int, Big, Text}
 use Rattle.sa_cond.specs.declared.expr.Expr.{Expr, Expr-F, fold-Expr}

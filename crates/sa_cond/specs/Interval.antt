@@ -33,9 +33,13 @@ least_bigint = negsuc 9223372036854775807
 abbrev pub greatest_bigint : ℤ
 greatest_bigint = pos 9223372036854775807
 
--- whether all of an interval is in the range of BIGINT
+-- whether a number is in the range of BIGINT
+abbrev pub is_bigint : ℤ → Bool
+is_bigint x = int_le least_bigint x && int_le x greatest_bigint
+
+-- whether an interval is, with both its ends
 abbrev pub is_within : Interval → Bool
-is_within interval = int_le least_bigint interval.least && int_le interval.greatest greatest_bigint
+is_within interval = is_bigint interval.least && is_bigint interval.greatest
 
 -- an interval that arithmetic reaches, if it stays within the range
 abbrev pub number_within : Interval → ExprKind

@@ -4,3 +4,6 @@ pub mod Condition
 pub mod Interval
 pub mod Typed
 pub mod Cited
+pub mod Within
+pub mod Agree
+pub mod inner

@@ -1,13 +1,11 @@
 -- When a tree is well-typed, and when cells meet the kinds that it is well-typed with.
-use Rattle.std.specs.Prelude.{◌≡◌, ℕ, ℤ, ◌≤ℤ◌, ⊤, Bool, true, false, ◌&&◌, List, map, All}
+use Rattle.std.specs.Prelude.{◌≤ℤ◌, ⊤, Bool, true, false, ◌&&◌}
 use Rattle.std.specs.List.{list_all}
 use Rattle.sa_value.specs.declared.value.Value.{Value}
 use Rattle.sa_value.specs.declared.value.Value.TheVariants.{Null, Int, Big, Text}
 use Rattle.sa_cond.specs.declared.cells.CellKind.{CellKind}
 use Rattle.sa_cond.specs.declared.cells.CellKind.TheVariants as cells
 use Rattle.sa_cond.specs.declared.cond.Cond.{Cond, Cond-F, fold-Cond}
-use Rattle.sa_cond.specs.declared.expr.Expr.{Expr}
-use Rattle.sa_cond.specs.Choice.{Choice}
 use Rattle.sa_cond.specs.Interval.{CellKinds, ExprKind, number, sum, text, null, faulty, expr_kind}
 
 -- whether a kind is one of a value

@@ -9,10 +9,12 @@ use sa_value::ValueRef;
 pub trait Cells {
     /// The table has this column here, and the group this slot.
     ghost has_cell: { Self → (table column : ℕ) → Type 0 };
+
     ghost has_slot: { Self → (number : ℕ) → Type 0 };
 
     /// What they hold.
     ghost cell_of: { Self → (table column : ℕ) → value };
+
     ghost slot_of: { Self → (number : ℕ) → value };
 
     /// The value of a column of a table's row.
@@ -40,10 +42,12 @@ pub enum CellKind {
 pub trait Kinds {
     /// The table has this column, and the group this slot.
     ghost has_column: { Self → (table column : ℕ) → Type 0 };
+
     ghost has_slot: { Self → (number : ℕ) → Type 0 };
 
     /// Their kinds.
     ghost column_kind: { Self → (table column : ℕ) → kind };
+
     ghost slot_kind: { Self → (number : ℕ) → kind };
 
     /// The kind of a table's column.

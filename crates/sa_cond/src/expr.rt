@@ -7,10 +7,7 @@ use sqlite_items::{Boxed, Items};
 #[derive(Debug, Drop)]
 pub enum Expr {
     /// A column of the table in this position of FROM, both counted from 0.
-    Column {
-        table: u32,
-        column: u32,
-    },
+    Column { table: u32, column: u32 },
     /// A GROUP BY column or an aggregate of a group, counted from 0.
     Slot(u32),
     Literal(Value),

@@ -1,5 +1,5 @@
 -- What each call leaves at its desk.
-use Rattle.std.proofs.Common.{◌≡◌, ◌≢◌, ℕ, ◌+◌, ◌-◌, ◌≤◌, ◌==◌, true, false, List, [], ◌∷◌, ◌++◌, length, slice_set, Some, None, Option, All, refl, sym, subst, ap, ◌∙◌, arith, get_or-set_other, slice_index, map}
+use Rattle.std.proofs.Common.{◌≡◌, ◌≢◌, ℕ, ◌+◌, ◌-◌, ◌≤◌, ◌==◌, false, List, [], ◌∷◌, ◌++◌, length, slice_set, Some, None, Option, All, refl, sym, ap, ◌∙◌, arith, get_or-set_other, slice_index, map}
 use Rattle.std.proofs.lemmas.Bool.{ne_eqb}
 use Rattle.std.proofs.lemmas.List.Elements.{All-append, All-cons, All-nil}
 use Rattle.sa_ast.specs.declared.kind.AskKind.{AskKind}
@@ -15,10 +15,10 @@ use Rattle.sa_desk.specs.declared.answer.Polled.TheVariants.{Taken, Spent, NotYe
 use Rattle.sa_desk.specs.declared.stamp.Caller.{Caller}
 use Rattle.sa_desk.specs.declared.stamp.Stamp.{Stamp}
 use Rattle.sa_desk.specs.State.{queue_of}
-use Rattle.sa_desk.specs.Contents.{Contents, phase, IsSound, entry_by, later, with_entries}
+use Rattle.sa_desk.specs.Contents.{Contents, phase, IsSound, IsCaller, IsOwner, entry_by, later, with_entries}
 use Rattle.sa_desk.specs.Serving.{served_with, served_entries, report_of}
-use Rattle.sa_desk.specs.World.{Quiet, quiet_of, next_stamp}
-use Rattle.sa_desk.specs.Plain.{Plain, desk_at, are_there, world_of, IsPlain}
+use Rattle.sa_desk.specs.World.{Quiet, quiet_of, Leaves, next_stamp}
+use Rattle.sa_desk.specs.Plain.{Plain, world_of}
 use Rattle.sa_desk.specs.call.Ask.{ask_entries, after_ask}
 use Rattle.sa_desk.specs.call.Begin.{begin_entries, after_begin}
 use Rattle.sa_desk.specs.call.Close.{close_entries, after_close}
@@ -26,7 +26,6 @@ use Rattle.sa_desk.specs.call.End.{served_by, end_entry, end_entries, after_end}
 use Rattle.sa_desk.specs.call.Point.{after_point}
 use Rattle.sa_desk.specs.call.Poll.{count_poll, poll_events, polled, poll_entries, after_poll}
 use Rattle.sa_desk.proofs.Numbered.{AreNumbered, AreNumbered-append}
-use Rattle.sa_desk.proofs.PlainCall.{are_there-is, length-entries_of, IsLeft}
 
 -- The entries stand on the desk, and are the actor's, numbered in a row from the stamp's number on.
 pub record AreStamped (desk : Contents) (stamp : Stamp) (entries : List Entry) : Type 0 where
@@ -92,65 +91,54 @@ quiet-published desk entries session other steps own apart =
     let others : (other == desk.terms.desk) ≡ false = ne_eqb other desk.terms.desk (λ is. apart (is ∙ sym own)) in
     rw others refl
 
--- A call whose entries bear the session's next stamp, and which changes nothing else of the others, leaves what it has to.
-pub IsLeft-stamped : (plain : Plain) (desk : ℕ) (me : Caller) (entries : List Entry) (next : Contents) → IsPlain plain → are_there plain desk me.actor ≡ true
-    → IsSound next → next.terms ≡ (desk_at plain desk).terms → next.shares ≡ (desk_at plain desk).shares → next.journal ≡ (desk_at plain desk).journal ++ entries
-    → AreStamped (desk_at plain desk) (next_stamp (world_of plain) me) entries
-    → ((other : ℕ) → 1 ≤ other → other ≢ me.actor → quiet_of next other ≡ quiet_of (desk_at plain desk) other)
-    → IsLeft plain desk me.actor entries next
-IsLeft-stamped plain desk me entries next is allowed sound terms shares grown stamped quiet =
-    let there = are_there-is plain desk me.actor allowed in
-    record {
-      sound = sound;
-      terms = terms;
-      shares = shares;
-      grown = grown;
-      standing = subst (λ number. All (λ entry. entry.desk ≡ number) entries) (is.numbers desk there.desk_least there.desk_most) stamped.standing;
-      made = stamped.made;
-      numbered = subst (λ count. AreNumbered (count + 1) entries) (length-entries_of plain is me.actor there.session_least there.session_most) stamped.numbered;
-      quiet = quiet;
-    }
+-- A call whose entries bear the stamp, and which changes nothing else of the others, leaves what it has to.
+pub Leaves-stamped : (desk : Contents) (stamp : Stamp) (entries : List Entry) (next : Contents) → IsSound next → next.terms ≡ desk.terms → next.shares ≡ desk.shares
+    → next.journal ≡ desk.journal ++ entries → AreStamped desk stamp entries → ((other : ℕ) → 1 ≤ other → other ≢ stamp.actor → quiet_of next other ≡ quiet_of desk other)
+    → Leaves desk next stamp.actor stamp.seq entries
+Leaves-stamped desk stamp entries next sound terms shares grown stamped quiet = record {
+  sound = sound;
+  terms = terms;
+  shares = shares;
+  grown = grown;
+  standing = stamped.standing;
+  own = stamped.made;
+  numbered = stamped.numbered;
+  quiet = quiet;
+}
 
 -- the stamp of the call's first entry
 abbrev pub stamp_of : Plain → Caller → Stamp
 stamp_of plain me = next_stamp (world_of plain) me
 
-module _ (plain : Plain) (is : IsPlain plain) (desk : ℕ) (me : Caller) (allowed : are_there plain desk me.actor ≡ true) where
-  pub begin-left : (event : Event) (number : ℕ) → IsSound (after_begin (desk_at plain desk) (stamp_of plain me) event number)
-      → IsLeft plain desk me.actor (begin_entries (desk_at plain desk) (stamp_of plain me) event number) (after_begin (desk_at plain desk) (stamp_of plain me) event number)
-  begin-left event number sound =
-      IsLeft-stamped plain desk me _ _ is allowed sound refl refl refl (AreStamped-one (desk_at plain desk) (stamp_of plain me) _) (λ other least apart. refl)
+module _ (desk : Contents) (stamp : Stamp) where
+  pub begin-left : (event : Event) (number : ℕ) → IsSound (after_begin desk stamp event number)
+      → Leaves desk (after_begin desk stamp event number) stamp.actor stamp.seq (begin_entries desk stamp event number)
+  begin-left event number sound = Leaves-stamped desk stamp _ _ sound refl refl refl (AreStamped-one desk stamp _) (λ other least apart. refl)
 
-  pub close-left : IsSound (after_close (desk_at plain desk) (stamp_of plain me))
-      → IsLeft plain desk me.actor (close_entries (desk_at plain desk) (stamp_of plain me)) (after_close (desk_at plain desk) (stamp_of plain me))
-  close-left sound =
-      IsLeft-stamped plain desk me _ _ is allowed sound refl refl refl (AreStamped-one (desk_at plain desk) (stamp_of plain me) Close) (λ other least apart. refl)
+  pub close-left : IsSound (after_close desk stamp) → Leaves desk (after_close desk stamp) stamp.actor stamp.seq (close_entries desk stamp)
+  close-left sound = Leaves-stamped desk stamp _ _ sound refl refl refl (AreStamped-one desk stamp Close) (λ other least apart. refl)
 
-  pub ask-left : (number : ℕ) (kind : AskKind) (budget : ℕ) → IsSound (after_ask (desk_at plain desk) (stamp_of plain me) number kind budget)
-      → IsLeft plain desk me.actor (ask_entries (desk_at plain desk) (stamp_of plain me) number kind budget) (after_ask (desk_at plain desk) (stamp_of plain me) number kind budget)
-  ask-left number kind budget sound =
-      let there = are_there-is plain desk me.actor allowed in
-      IsLeft-stamped plain desk me _ _ is allowed sound refl refl refl (AreStamped-one (desk_at plain desk) (stamp_of plain me) _)
-      (λ other least apart. quiet-polls (desk_at plain desk) (ask_entries (desk_at plain desk) (stamp_of plain me) number kind budget) me.actor other 0 there.session_least least apart)
+  pub ask-left : IsCaller desk stamp → (number : ℕ) (kind : AskKind) (budget : ℕ) → IsSound (after_ask desk stamp number kind budget)
+      → Leaves desk (after_ask desk stamp number kind budget) stamp.actor stamp.seq (ask_entries desk stamp number kind budget)
+  ask-left caller number kind budget sound =
+      Leaves-stamped desk stamp _ _ sound refl refl refl (AreStamped-one desk stamp _)
+      (λ other least apart. quiet-polls desk (ask_entries desk stamp number kind budget) stamp.actor other 0 caller.least least apart)
 
-  pub poll-left : (number : ℕ) → IsSound (after_poll (desk_at plain desk) (stamp_of plain me) number)
-      → IsLeft plain desk me.actor (poll_entries (desk_at plain desk) (stamp_of plain me) number) (after_poll (desk_at plain desk) (stamp_of plain me) number)
-  poll-left number sound =
-      let there = are_there-is plain desk me.actor allowed in
-      let answer = polled (desk_at plain desk) (stamp_of plain me) number in
-      IsLeft-stamped plain desk me _ _ is allowed sound refl refl refl (AreStamped-polled (desk_at plain desk) (stamp_of plain me) answer number)
-      (λ other least apart. quiet-counted (desk_at plain desk) (poll_entries (desk_at plain desk) (stamp_of plain me) number) answer me.actor other there.session_least least apart)
+  pub poll-left : IsCaller desk stamp → (number : ℕ) → IsSound (after_poll desk stamp number) → Leaves desk (after_poll desk stamp number) stamp.actor stamp.seq (poll_entries desk stamp number)
+  poll-left caller number sound =
+      let answer = polled desk stamp number in
+      Leaves-stamped desk stamp _ _ sound refl refl refl (AreStamped-polled desk stamp answer number)
+      (λ other least apart. quiet-counted desk (poll_entries desk stamp number) answer stamp.actor other caller.least least apart)
 
-  pub point-left : (run : Progress) → me.actor ≡ (desk_at plain desk).terms.desk → IsSound (after_point (desk_at plain desk) (stamp_of plain me) run)
-      → IsLeft plain desk me.actor (served_entries (desk_at plain desk) (stamp_of plain me) run) (after_point (desk_at plain desk) (stamp_of plain me) run)
-  point-left run own sound =
-      IsLeft-stamped plain desk me _ _ is allowed sound refl refl refl (AreStamped-served (desk_at plain desk) (report_of run) (stamp_of plain me) (queue_of (phase (desk_at plain desk))))
-      (λ other least apart. quiet-published (desk_at plain desk) (served_entries (desk_at plain desk) (stamp_of plain me) run) me.actor other run.steps own apart)
+  pub point-left : IsOwner desk stamp → (run : Progress) → IsSound (after_point desk stamp run) → Leaves desk (after_point desk stamp run) stamp.actor stamp.seq (served_entries desk stamp run)
+  point-left own run sound =
+      Leaves-stamped desk stamp _ _ sound refl refl refl (AreStamped-served desk (report_of run) stamp (queue_of (phase desk)))
+      (λ other least apart. quiet-published desk (served_entries desk stamp run) stamp.actor other run.steps own apart)
 
-  pub end-left : (number : ℕ) (run : Option Progress) (given : Outcome) → me.actor ≡ (desk_at plain desk).terms.desk → IsSound (after_end (desk_at plain desk) (stamp_of plain me) number run given)
-      → IsLeft plain desk me.actor (end_entries (desk_at plain desk) (stamp_of plain me) number run given) (after_end (desk_at plain desk) (stamp_of plain me) number run given)
-  end-left number run given own sound =
-      IsLeft-stamped plain desk me _ _ is allowed sound refl refl refl
-      (AreStamped-append (desk_at plain desk) (stamp_of plain me) (served_by (desk_at plain desk) (stamp_of plain me) run) (end_entry (desk_at plain desk) (stamp_of plain me) number run given ∷ [])
-      (AreStamped-served_by (desk_at plain desk) (stamp_of plain me) run) (AreStamped-one (desk_at plain desk) (later (length (served_by (desk_at plain desk) (stamp_of plain me) run)) (stamp_of plain me)) _))
-      (λ other least apart. quiet-published (desk_at plain desk) (end_entries (desk_at plain desk) (stamp_of plain me) number run given) me.actor other 0 own apart)
+  pub end-left : IsOwner desk stamp → (number : ℕ) (run : Option Progress) (given : Outcome) → IsSound (after_end desk stamp number run given)
+      → Leaves desk (after_end desk stamp number run given) stamp.actor stamp.seq (end_entries desk stamp number run given)
+  end-left own number run given sound =
+      Leaves-stamped desk stamp _ _ sound refl refl refl
+      (AreStamped-append desk stamp (served_by desk stamp run) (end_entry desk stamp number run given ∷ [])
+      (AreStamped-served_by desk stamp run) (AreStamped-one desk (later (length (served_by desk stamp run)) stamp) _))
+      (λ other least apart. quiet-published desk (end_entries desk stamp number run given) stamp.actor other 0 own apart)

@@ -5,20 +5,22 @@ use Rattle.sa_desk.specs.declared.entry.Entry.{Entry}
 use Rattle.sa_desk.specs.declared.stamp.Caller.{Caller}
 use Rattle.sa_desk.specs.declared.stamp.Stamp.{Stamp}
 use Rattle.sa_desk.specs.Contents.{Contents, IsSound, HasNumbers}
-use Rattle.sa_desk.specs.World.{IsCall}
-use Rattle.sa_desk.specs.Plain.{Plain, no_desk, desk_at, are_there, world_of, IsPlain, made_of, next_plain, stamp_at}
-use Rattle.sa_desk.proofs.PlainCall.{are_there-is, next_stamp-counted, made_fits, IsLeft, made_of-session, IsPlain-next, IsCall-next}
+use Rattle.sa_desk.specs.World.{Leaves, IsCall}
+use Rattle.sa_desk.specs.New.{no_desk}
+use Rattle.sa_desk.specs.Plain.{Plain, desk_at, are_there, world_of, SameDesks, IsPlain}
+use Rattle.sa_desk.specs.inner.NextPlain.{made_of, next_plain, stamp_at}
+use Rattle.sa_desk.proofs.PlainCall.{are_there-is, next_stamp-counted, made_fits, length-entries_of, made_of-session, IsPlain-next, IsCall-next}
 use Rattle.sa_desk.proofs.CallLeft.{stamp_of}
 
--- The code takes the desk at the place of its number, and makes a stamp.
+-- The code takes the desk at the index of its number, and makes a stamp.
 pub record Takes (plain : Plain) (desk : ℕ) (me : Caller) (at : Contents) (stamp : Stamp) : Type 0 where
-  pub place : ℕ
-  pub place_is : place ≡ desk - 1
-  pub at_is : at ≡ slice_index_or plain.desks place at
+  pub index : ℕ
+  pub index_is : index ≡ desk - 1
+  pub at_is : at ≡ slice_index_or plain.desks index at
   pub stamp_is : stamp ≡ stamp_at plain me
 
 -- The call leaves the desk so, and the code knows how many entries its journal had and has.
-pub record Leaves (plain : Plain) (desk : ℕ) (me : Caller) (after : Contents → Stamp → Contents) (at : Contents) (stamp : Stamp) (new : Contents) (had has : ℕ) : Type 0 where
+pub record Calls (plain : Plain) (desk : ℕ) (me : Caller) (after : Contents → Stamp → Contents) (at : Contents) (stamp : Stamp) (new : Contents) (had has : ℕ) : Type 0 where
   pub takes : Takes plain desk me at stamp
   pub new_is : new ≡ after at stamp
   pub sound : IsSound new
@@ -29,7 +31,7 @@ pub record Leaves (plain : Plain) (desk : ℕ) (me : Caller) (after : Contents �
 pub record IsDone (plain : Plain) (desk : ℕ) (me : Caller) (entries : Contents → Stamp → List Entry) (after : Contents → Stamp → Contents) (later : Plain) : Type 0 where
   pub call : IsCall (world_of plain) (world_of later) desk me.actor (entries (desk_at plain desk) (stamp_of plain me)) (after (desk_at plain desk) (stamp_of plain me))
   pub kept : IsPlain later
-  pub is : later ≡ next_plain plain desk me.actor (entries (desk_at plain desk) (stamp_at plain me)) (after (desk_at plain desk) (stamp_at plain me))
+  pub same : SameDesks plain later
 
 -- The fields hold these desks, which the contract sees.
 module _ (held plain : Plain) (view : held ≡ plain) (is_held : IsPlain held) (desk : ℕ) (me : Caller) (allowed : are_there plain desk me.actor ≡ true) where
@@ -47,9 +49,9 @@ module _ (held plain : Plain) (view : held ≡ plain) (is_held : IsPlain held) (
     at_is : at ≡ desk_at plain desk
     at_is =
         let there = are_there-is plain desk me.actor allowed in
-        let here = takes.place_is in
+        let here = takes.index_is in
         let within = ap (λ plain. length plain.desks) view in
-        takes.at_is ∙ get_or_default held.desks takes.place at no_desk (omega arith) ∙ ap₂ (λ plain place. slice_index_or plain.desks place no_desk) view here
+        takes.at_is ∙ get_or_default held.desks takes.index at no_desk (omega arith) ∙ ap₂ (λ plain index. slice_index_or plain.desks index no_desk) view here
 
     stamp_is : stamp ≡ stamp_of plain me
     stamp_is =
@@ -64,8 +66,9 @@ module _ (held plain : Plain) (view : held ≡ plain) (is_held : IsPlain held) (
     HasNumbers-taken = let left = numbers_before in rw takes.stamp_is (omega arith)
 
   module _ (entries : Contents → Stamp → List Entry) (after : Contents → Stamp → Contents)
-      (left : IsPlain plain → IsSound (after (desk_at plain desk) (stamp_of plain me)) → IsLeft plain desk me.actor (entries (desk_at plain desk) (stamp_of plain me)) (after (desk_at plain desk) (stamp_of plain me)))
-      (at : Contents) (stamp : Stamp) (new : Contents) (had has : ℕ) (leaves : Leaves held desk me after at stamp new had has) where
+      (left : IsSound (after (desk_at plain desk) (stamp_of plain me))
+      → Leaves (desk_at plain desk) (after (desk_at plain desk) (stamp_of plain me)) me.actor (stamp_of plain me).seq (entries (desk_at plain desk) (stamp_of plain me)))
+      (at : Contents) (stamp : Stamp) (new : Contents) (had has : ℕ) (calls : Calls held desk me after at stamp new had has) where
     abbrev next : Contents
     next = after (desk_at plain desk) (stamp_of plain me)
 
@@ -73,16 +76,19 @@ module _ (held plain : Plain) (view : held ≡ plain) (is_held : IsPlain held) (
     made = entries (desk_at plain desk) (stamp_of plain me)
 
     next_is : new ≡ next
-    next_is = leaves.new_is ∙ ap₂ after (at_is at stamp leaves.takes) (stamp_is at stamp leaves.takes)
+    next_is = calls.new_is ∙ ap₂ after (at_is at stamp calls.takes) (stamp_is at stamp calls.takes)
 
-    is_left : IsLeft plain desk me.actor made next
-    is_left = left is (subst IsSound next_is leaves.sound)
+    is_left : Leaves (desk_at plain desk) next me.actor (made_of plain me.actor + 1) made
+    is_left =
+        let there = are_there-is plain desk me.actor allowed in
+        subst (λ count. Leaves (desk_at plain desk) next me.actor (count + 1) made) (length-entries_of plain is me.actor there.session_least there.session_most)
+        (left (subst IsSound next_is calls.sound))
 
     -- The journal has as many entries more as the call has made.
     counted : has - had ≡ length made
     counted =
-        let before = leaves.had_is ∙ ap (λ contents. length contents.journal) (at_is at stamp leaves.takes) in
-        let later = leaves.has_is ∙ ap (λ contents. length contents.journal) next_is in
+        let before = calls.had_is ∙ ap (λ contents. length contents.journal) (at_is at stamp calls.takes) in
+        let later = calls.has_is ∙ ap (λ contents. length contents.journal) next_is in
         omega (arith, before, later, ap length is_left.grown, length-append (desk_at plain desk).journal made)
 
     -- Numbers are left after the call too.
@@ -96,15 +102,15 @@ module _ (held plain : Plain) (view : held ≡ plain) (is_held : IsPlain held) (
 
     -- The desks with what is left there, and with the entries counted, are those after the call.
     pub done_as : (all : List ℕ) → all ≡ slice_set held.made (me.actor - 1) (made_of held me.actor + (has - had))
-        → let later : Plain = record { desks = slice_set held.desks leaves.takes.place new; made = all } in IsDone plain desk me entries after later
+        → let later : Plain = record { desks = slice_set held.desks calls.takes.index new; made = all } in IsDone plain desk me entries after later
     done_as all all_is =
         let there = are_there-is plain desk me.actor allowed in
-        let later : Plain = record { desks = slice_set held.desks leaves.takes.place new; made = all } in
+        let later : Plain = record { desks = slice_set held.desks calls.takes.index new; made = all } in
         let of_made = all_is ∙ ap₂ (λ plain count. slice_set plain.made (me.actor - 1) (made_of plain me.actor + count)) view counted in
-        let of_desks = ap (λ place. slice_set held.desks place new) leaves.takes.place_is ∙ ap₂ (λ plain contents. slice_set plain.desks (desk - 1) contents) view next_is in
+        let of_desks = ap (λ index. slice_set held.desks index new) calls.takes.index_is ∙ ap₂ (λ plain contents. slice_set plain.desks (desk - 1) contents) view next_is in
         let same : later ≡ next_plain plain desk me.actor made next = ap₂ (λ desks made. let plain : Plain = record { desks = desks; made = made } in plain) of_desks of_made in
         subst (IsDone plain desk me entries after) (sym same) (record {
           call = IsCall-next plain is desk me.actor allowed made next is_left;
           kept = IsPlain-next plain is desk me.actor allowed made next is_left;
-          is = ap (λ stamp. next_plain plain desk me.actor (entries (desk_at plain desk) stamp) (after (desk_at plain desk) stamp)) (next_stamp-counted plain is me there.session_least there.session_most);
+          same = length-set plain.desks (desk - 1) next;
         })

@@ -1,12 +1,9 @@
 -- What an entry does to the requests that wait and to the answers that are not yet taken.
-use Rattle.std.proofs.Common.{◌≡◌, ℕ, Global, ◌+◌, List, [], ◌∷◌, ◌++◌, Some, refl, sym, All, ◌≢◌, Bool, false, Option, option_map, ap, ◌==◌, if◌then◌else◌}
-use Rattle.std.specs.Arc.{arc_value}
-use Rattle.std.specs.declared.sync.Arc.{Arc}
+use Rattle.std.proofs.Common.{◌≡◌, ℕ, ◌+◌, List, [], ◌∷◌, ◌++◌, Some, refl, sym, All, ◌≢◌, Bool, false, Option, ap, ◌==◌, if◌then◌else◌}
 use Rattle.sa_value.specs.declared.text.Text.{Text}
-use Rattle.sa_value.specs.declared.values.Values.{Values}
-use Rattle.sa_value.specs.declared.value.Value.{Value}
 use Rattle.sa_count.specs.declared.report.Report.{Report}
 use Rattle.sa_plan.specs.declared.plan.Plan.{Plan}
+use Rattle.sa_meaning.specs.Data.{RunData}
 use Rattle.sa_ast.specs.declared.kind.AskKind.{AskKind}
 use Rattle.sa_ast.specs.declared.kind.KillKind.{KillKind}
 use Rattle.sa_desk.specs.declared.entry.Entry.{Entry}
@@ -16,7 +13,7 @@ use Rattle.sa_desk.specs.declared.entry.RefusedWhy.{RefusedWhy}
 use Rattle.sa_desk.specs.declared.outcome.Outcome.{Outcome}
 use Rattle.sa_desk.specs.declared.request.Request.{Request}
 use Rattle.sa_desk.specs.declared.request.Reply.{Reply}
-use Rattle.sa_desk.specs.State.{Terms, Statement, Execution, Phase, idle, plain, planned, serving, State, queue_of}
+use Rattle.sa_desk.specs.State.{Terms, Statement, Execution, Phase, idle, unplanned, planned, serving, State, queue_of}
 use Rattle.sa_desk.specs.Comes.{ComesIn, Comes, ServesFirst}
 use Rattle.sa_desk.specs.After.{after_event, after, begun, served, still_serving, without, untaken, first_owed}
 use Rattle.sa_desk.specs.Charge.{cost}
@@ -132,22 +129,22 @@ module _ (terms : Terms) (doomed : Bool) (replies : List Reply) (desk actor seq 
   on_close phase comes = absurd comes
 
   on_end : (phase : Phase) (number : ℕ) (outcome : Outcome) (steps : ℕ) → Goal phase (End number outcome steps)
-  on_end (plain statement) number outcome steps comes = keeps (record { same_queue = refl; same_replies = refl; costs = refl })
+  on_end (unplanned statement) number outcome steps comes = keeps (record { same_queue = refl; same_replies = refl; costs = refl })
   on_end (planned statement execution) number outcome steps comes =
       keeps (record { same_queue = sym comes.1.served; same_replies = refl; costs = refl })
   on_end phase number outcome steps comes = absurd comes
 
-  begun_empty : (statement : Statement) (plan : Option Plan) (values : Option (List Value)) → queue_of (begun statement plan values) ≡ []
-  begun_empty statement (Some plan) (Some values) = refl
-  begun_empty statement plan values = refl
+  begun_empty : (statement : Statement) (plan : Option Plan) (tables : Option RunData) → queue_of (begun statement plan tables) ≡ []
+  begun_empty statement (Some plan) (Some tables) = refl
+  begun_empty statement plan tables = refl
 
-  on_begin : (phase : Phase) (number : ℕ) (text : Text) (version : ℕ) (plan : Option (Arc Plan Global)) (values : Option (Arc Values Global)) → Goal phase (Begin number text version plan values)
-  on_begin idle number text version plan values comes = keeps (record {
-    same_queue = begun_empty (record { number = number; begin = seq; turn = turn; killed = false }) (option_map arc_value plan) (option_map arc_value values);
+  on_begin : (phase : Phase) (number : ℕ) (text : Text) (version : ℕ) (plan : Option Plan) (tables : Option RunData) → Goal phase (Begin number text version plan tables)
+  on_begin idle number text version plan tables comes = keeps (record {
+    same_queue = begun_empty (record { number = number; begin = seq; turn = turn; killed = false }) plan tables;
     same_replies = refl;
     costs = refl;
   })
-  on_begin phase number text version plan values comes = absurd comes
+  on_begin phase number text version plan tables comes = absurd comes
 
   -- Whoever else waits, waits on.
   serving_on : (statement : Statement) (execution : Execution) (rest : List Request) (steps at : ℕ) → execution.queue ≡ rest → queue_of (still_serving statement execution rest steps at) ≡ rest
@@ -177,7 +174,7 @@ module _ (terms : Terms) (doomed : Bool) (replies : List Reply) (desk actor seq 
   on_served phase asker number report comes = absurd comes
 
   change_of : (phase : Phase) (event : Event) → Goal phase event
-  change_of phase (Begin number text version plan values) = on_begin phase number text version plan values
+  change_of phase (Begin number text version plan tables) = on_begin phase number text version plan tables
   change_of phase (Queued number kind at budget) = on_asks phase number kind at budget
   change_of phase (Refused number why) = on_refused phase number why
   change_of phase (Served asker number report) = on_served phase asker number report

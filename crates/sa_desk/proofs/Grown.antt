@@ -45,8 +45,8 @@ IsWithinShares-append desk stamp entries sound all room session within =
     let old = sound.charges session within in
     elim (eqb_tells stamp.actor (session + 1)) [
       | inl same ↦
-          let place : stamp.actor - 1 ≡ session = omega (arith, same.1) in
-          rw (sym same.1, sym place) room
+          let index : stamp.actor - 1 ≡ session = omega (arith, same.1) in
+          rw (sym same.1, sym index) room
       | inr apart ↦
           let none = charge-others stamp.actor (session + 1) entries (All-weaker (IsBy desk stamp) (λ entry. entry.actor ≡ stamp.actor) (λ entry by. by.actor_is) entries all) apart.1 in
           omega (arith, charge-append (session + 1) desk.journal entries, none, old)

@@ -5,7 +5,7 @@ use Rattle.sa_desk.specs.declared.entry.Entry.{Entry}
 use Rattle.sa_desk.specs.declared.phase.Phase as held
 use Rattle.sa_desk.specs.declared.request.Request.{Request}
 use Rattle.sa_desk.specs.declared.request.Reply.{Reply}
-use Rattle.sa_desk.specs.declared.request.Wait.{Wait}
+use Rattle.sa_desk.specs.declared.request.OpenWait.{OpenWait}
 use Rattle.sa_desk.specs.declared.stamp.Stamp.{Stamp}
 use Rattle.sa_desk.specs.declared.entry.Event.{Event}
 use Rattle.sa_desk.specs.State.{idle, State, queue_of, IsLawful, IsSettled}
@@ -13,7 +13,7 @@ use Rattle.sa_desk.specs.Runs.{state_of, state_after}
 use Rattle.sa_desk.specs.Comes.{Comes}
 use Rattle.sa_desk.specs.After.{after}
 use Rattle.sa_desk.specs.Contents.{Contents, state, IsCaller, HasRoom, entry_by, IsPatient}
-use Rattle.sa_desk.specs.Desk.{contents_of, outline, IsReady}
+use Rattle.sa_desk.specs.inner.Desk.{contents_of, held_phase, IsReady}
 use Rattle.sa_desk.proofs.Append.{state_of-append}
 use Rattle.sa_desk.proofs.Grown.{IsJournal, IsJournal-push}
 
@@ -21,7 +21,7 @@ use Rattle.sa_desk.proofs.Grown.{IsJournal, IsJournal-push}
 pub record Keeps (quantum : ℕ) (phase : held.Phase) (doomed : Bool) (published : ℕ) (queue : List Request) (replies : List Reply) (state : State) : Type 0 where
   pub settled : IsSettled state.phase
   pub lawful : IsLawful quantum state.phase published
-  pub phase_is : phase ≡ outline state.phase
+  pub phase_is : phase ≡ held_phase state.phase
   pub doomed_is : doomed ≡ state.doomed
   pub queue_is : queue ≡ queue_of state.phase
   pub replies_is : replies ≡ state.replies
@@ -42,7 +42,7 @@ FieldsKeep-ready desk ready = record {
 }
 
 -- Each session has its polls here, fewer than a request lasts, and its wait.
-pub record AreCounts (turns sessions : ℕ) (polls : List ℕ) (waits : List (Option Wait)) : Type 0 where
+pub record AreCounts (turns sessions : ℕ) (polls : List ℕ) (waits : List (Option OpenWait)) : Type 0 where
   pub polls_are : length polls ≡ sessions
   pub unspent : All (λ count. count < turns) polls
   pub waits_are : length waits ≡ sessions

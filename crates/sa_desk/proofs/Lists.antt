@@ -32,8 +32,8 @@ remove-single p (x ∷ xs) single within =
       | inl here ↦ let rest = filter-none p xs (grind (arith, common_steps)) in grind (arith, common_steps)
       | inr here ↦
           let rest = remove-single p xs (grind (arith, common_steps)) (grind (arith, common_steps)) in
-          let place : position_or_len p (x ∷ xs) ≡ suc (position_or_len p xs) = rw here (omega arith) in
-          rw (place, here) (ap (λ more. x ∷ more) rest)
+          let index : position_or_len p (x ∷ xs) ≡ suc (position_or_len p xs) = rw here (omega arith) in
+          rw (index, here) (ap (λ more. x ∷ more) rest)
     ]
 
 -- What `position` finds is there, and is what is taken out.
@@ -45,13 +45,13 @@ position-missing p xs missing = grind (arith, common_steps, gets)
 
 pub find-found : {X : Type 0} (p : X → Bool) (xs : List X) (i : ℕ) (x : X) → position p xs ≡ Some i → x ≡ get_or xs i x → Some x ≡ find p xs
 find-found p xs i x found here =
-    let place = position-found p xs i found in
-    sym (find_at p xs ∙ ap (λ i. slice_get xs i) (sym place.0) ∙ slice_get_read xs (length xs) i x refl place.1 here)
+    let index = position-found p xs i found in
+    sym (find_at p xs ∙ ap (λ i. slice_get xs i) (sym index.0) ∙ slice_get_read xs (length xs) i x refl index.1 here)
 
 pub find-missing : {X : Type 0} (p : X → Bool) (xs : List X) → position p xs ≡ None → None ≡ find p xs
 find-missing p xs missing = sym (find_at p xs ∙ slice_get_past xs (position_or_len p xs) (position-missing p xs missing))
 
 pub remove-found : {X : Type 0} (p : X → Bool) (xs : List X) (i : ℕ) → count_by p xs ≤ 1 → position p xs ≡ Some i → remove xs i ≡ filter (λ x. not (p x)) xs
 remove-found p xs i single found =
-    let place = position-found p xs i found in
-    rw place.0 (remove-single p xs single (rw (sym place.0) place.1))
+    let index = position-found p xs i found in
+    rw index.0 (remove-single p xs single (rw (sym index.0) index.1))

@@ -46,7 +46,7 @@ pub append-none : {X : Type 0} (xs ys : List X) → xs ++ ys ≡ [] → (xs ≡ 
 append-none [] ys none = (refl, none)
 append-none (x ∷ xs) ys none = absurd (cc none)
 
--- One list is another with more elements at some place.
+-- One list is another with more elements at some index.
 pub record Inserted {X : Type 0} (more before later : List X) : Type 0 where
   pub first : List X
   pub last : List X

@@ -14,8 +14,10 @@ use Rattle.sa_desk.specs.declared.stamp.Caller.{Caller}
 use Rattle.sa_desk.specs.declared.stamp.Stamp.{Stamp}
 use Rattle.sa_desk.specs.Runs.{IsEntryOf}
 use Rattle.sa_desk.specs.Contents.{Contents, IsSound}
-use Rattle.sa_desk.specs.World.{quiet_of, made_by, standing_on, next_stamp, Begins, Meets, IsCall}
-use Rattle.sa_desk.specs.Plain.{Plain, all_entries, is_numbered, entries_of, no_desk, desk_at, are_there, quiet_at, world_of, AreOwn, IsPlain, made_of, next_plain}
+use Rattle.sa_desk.specs.New.{no_desk}
+use Rattle.sa_desk.specs.World.{quiet_of, Leaves, made_by, standing_on, next_stamp, Begins, Meets, IsCall}
+use Rattle.sa_desk.specs.Plain.{Plain, all_entries, is_numbered, entries_of, desk_at, are_there, quiet_at, world_of, AreOwn, IsPlain}
+use Rattle.sa_desk.specs.inner.NextPlain.{made_of, next_plain}
 use Rattle.sa_desk.proofs.Capacity.{sound_fits}
 use Rattle.sa_desk.proofs.Numbered.{filter-nothing, filter-everything, filter-finer, filter-none_left, Inserted, filter-unchanged, filter-new, length-inserted, range-append, flat_map-same, numbers_of, AreNumbered, none_numbered, each_numbered, flat_map-nothing}
 
@@ -26,29 +28,18 @@ pub record AreThere (plain : Plain) (desk session : ℕ) : Type 0 where
   pub session_least : 1 ≤ session
   pub session_most : session ≤ length plain.desks
 
--- What a call of the session has left at the desk: the desk as before but for these entries and what the session has counted.
-pub record IsLeft (plain : Plain) (desk session : ℕ) (entries : List Entry) (next : Contents) : Type 0 where
-  pub sound : IsSound next
-  pub terms : next.terms ≡ (desk_at plain desk).terms
-  pub shares : next.shares ≡ (desk_at plain desk).shares
-  pub grown : next.journal ≡ (desk_at plain desk).journal ++ entries
-  pub standing : All (λ entry. entry.desk ≡ desk) entries
-  pub made : All (λ entry. entry.actor ≡ session) entries
-  pub numbered : AreNumbered (made_of plain session + 1) entries
-  pub quiet : (other : ℕ) → 1 ≤ other → other ≢ session → quiet_of next other ≡ quiet_of (desk_at plain desk) other
-
--- A desk has more entries at the end of its journal, and so have all desks together at some place.
-pub all_entries-set : (desks : List Contents) (place : ℕ) (next : Contents) (entries : List Entry) → place < length desks
-    → next.journal ≡ (slice_index_or desks place no_desk).journal ++ entries → Inserted entries (all_entries desks) (all_entries (slice_set desks place next))
-all_entries-set [] place next entries within grown = absurd (omega arith)
+-- A desk has more entries at the end of its journal, and so have all desks together at some index.
+pub all_entries-set : (desks : List Contents) (index : ℕ) (next : Contents) (entries : List Entry) → index < length desks
+    → next.journal ≡ (slice_index_or desks index no_desk).journal ++ entries → Inserted entries (all_entries desks) (all_entries (slice_set desks index next))
+all_entries-set [] index next entries within grown = absurd (omega arith)
 all_entries-set (desk ∷ rest) zero next entries within grown = record {
   first = desk.journal;
   last = all_entries rest;
   before_is = refl;
   later_is = ap (λ journal. journal ++ all_entries rest) grown ∙ append_assoc desk.journal entries (all_entries rest);
 }
-all_entries-set (desk ∷ rest) (suc place) next entries within grown =
-    let more = all_entries-set rest place next entries (omega arith) grown in record {
+all_entries-set (desk ∷ rest) (suc index) next entries within grown =
+    let more = all_entries-set rest index next entries (omega arith) grown in record {
       first = desk.journal ++ more.first;
       last = more.last;
       before_is = ap (λ all. desk.journal ++ all) more.before_is ∙ sym (append_assoc desk.journal more.first more.last);
@@ -56,33 +47,33 @@ all_entries-set (desk ∷ rest) (suc place) next entries within grown =
     }
 
 -- None of all entries passes where none passes on any desk.
-filter-all_entries : (p : Entry → Bool) (desks : List Contents) → ((place : ℕ) → place < length desks → filter p (slice_index_or desks place no_desk).journal ≡ []) → filter p (all_entries desks) ≡ []
+filter-all_entries : (p : Entry → Bool) (desks : List Contents) → ((index : ℕ) → index < length desks → filter p (slice_index_or desks index no_desk).journal ≡ []) → filter p (all_entries desks) ≡ []
 filter-all_entries p [] none = refl
 filter-all_entries p (desk ∷ rest) none =
     filter-append p desk.journal (all_entries rest)
-    ∙ ap₂ ◌++◌ (none 0 (omega arith)) (filter-all_entries p rest (λ place within. none (suc place) (omega arith)))
+    ∙ ap₂ ◌++◌ (none 0 (omega arith)) (filter-all_entries p rest (λ index within. none (suc index) (omega arith)))
 
 -- So many entries are there as the desks' journals can have.
-sum-journals : (desks : List Contents) (most : ℕ) → ((place : ℕ) → place < length desks → length (slice_index_or desks place no_desk).journal ≤ most)
+sum-journals : (desks : List Contents) (most : ℕ) → ((index : ℕ) → index < length desks → length (slice_index_or desks index no_desk).journal ≤ most)
     → sum_by (λ desk. length desk.journal) desks ≤ length desks * most
 sum-journals [] most each = omega arith
 sum-journals (desk ∷ rest) most each =
     let here : length desk.journal ≤ most = each 0 (omega arith) in
-    let rests = sum-journals rest most (λ place within. each (suc place) (omega arith)) in
+    let rests = sum-journals rest most (λ index within. each (suc index) (omega arith)) in
     let both = sum_by-cons (λ desk. length desk.journal) desk rest in
     grind arith
 
 -- by the number of a desk
-abbrev by_place : (plain : Plain) (P : Contents → Type 0) → ((desk : ℕ) → 1 ≤ desk → desk ≤ length plain.desks → P (desk_at plain desk)) → (place : ℕ) → place < length plain.desks → P (slice_index_or plain.desks place no_desk)
-by_place plain P each place within =
-    let number : place + 1 - 1 ≡ place = omega arith in
-    subst (λ at. P (slice_index_or plain.desks at no_desk)) number (each (place + 1) (omega arith) (omega arith))
+abbrev by_index : (plain : Plain) (P : Contents → Type 0) → ((desk : ℕ) → 1 ≤ desk → desk ≤ length plain.desks → P (desk_at plain desk)) → (index : ℕ) → index < length plain.desks → P (slice_index_or plain.desks index no_desk)
+by_index plain P each index within =
+    let number : index + 1 - 1 ≡ index = omega arith in
+    subst (λ at. P (slice_index_or plain.desks at no_desk)) number (each (index + 1) (omega arith) (omega arith))
 
 module _ (plain : Plain) (is : IsPlain plain) where
   -- No session has more entries than numbers are left for.
   pub made_fits : (session : ℕ) → 1 ≤ session → session ≤ length plain.desks → made_of plain session ≤ 16 * 2 ^ 20
   made_fits session least most =
-      let each = by_place plain (λ desk. length desk.journal ≤ 2 ^ 20) (λ desk least most.
+      let each = by_index plain (λ desk. length desk.journal ≤ 2 ^ 20) (λ desk least most.
       let sound = is.sound desk least most in
       let fits = sound_fits (desk_at plain desk) sound in
       let few = sound.few in
@@ -112,7 +103,7 @@ module _ (plain : Plain) (is : IsPlain plain) where
   none_later : (session number : ℕ) → 1 ≤ session → session ≤ length plain.desks → made_of plain session < number → filter (is_numbered session number) (all_entries plain.desks) ≡ []
   none_later session number least most past =
       filter-all_entries (is_numbered session number) plain.desks
-      (by_place plain (λ desk. filter (is_numbered session number) desk.journal ≡ []) (λ desk from to.
+      (by_index plain (λ desk. filter (is_numbered session number) desk.journal ≡ []) (λ desk from to.
       let mine = entries_of plain session in
       let many = length-entries_of session least most in
       let none = none_numbered session number 1 mine (AreNumbered-entries_of session least most) (λ k low high. omega arith) in
@@ -124,7 +115,7 @@ module _ (plain : Plain) (is : IsPlain plain) where
   none_of_nobody : (number : ℕ) → filter (is_numbered 0 number) (all_entries plain.desks) ≡ []
   none_of_nobody number =
       filter-all_entries (is_numbered 0 number) plain.desks
-      (by_place plain (λ desk. filter (is_numbered 0 number) desk.journal ≡ []) (λ desk from to.
+      (by_index plain (λ desk. filter (is_numbered 0 number) desk.journal ≡ []) (λ desk from to.
       let at = desk_at plain desk in
       filter-nothing (is_numbered 0 number) at.journal
       (All-weaker (IsEntryOf at.terms.desk (length at.shares)) (λ entry. is_numbered 0 number entry ≡ false)
@@ -156,7 +147,7 @@ Meets-plain plain is desk session allowed =
       counted = rw allowed refl;
     }
 
-module _ (plain : Plain) (is : IsPlain plain) (desk session : ℕ) (allowed : are_there plain desk session ≡ true) (entries : List Entry) (next : Contents) (left : IsLeft plain desk session entries next) where
+module _ (plain : Plain) (is : IsPlain plain) (desk session : ℕ) (allowed : are_there plain desk session ≡ true) (entries : List Entry) (next : Contents) (left : Leaves (desk_at plain desk) next session (made_of plain session + 1) entries) where
   abbrev pub after : Plain
   after = next_plain plain desk session entries next
 
@@ -187,8 +178,8 @@ module _ (plain : Plain) (is : IsPlain plain) (desk session : ℕ) (allowed : ar
   both_ways P changed same at =
       elim (cases_eq (at - 1) (desk - 1)) [
         | inl is ↦
-            let old : desk_at plain at ≡ desk_at plain desk = ap (λ place. slice_index_or plain.desks place no_desk) is in
-            let new : desk_at after at ≡ next = ap (λ place. slice_index_or after.desks place no_desk) is ∙ here in
+            let old : desk_at plain at ≡ desk_at plain desk = ap (λ index. slice_index_or plain.desks index no_desk) is in
+            let new : desk_at after at ≡ next = ap (λ index. slice_index_or after.desks index no_desk) is ∙ here in
             subst (λ before. P before (desk_at after at)) (sym old) (subst (P (desk_at plain desk)) (sym new) changed)
         | inr other ↦ subst (P (desk_at plain at)) (sym (elsewhere at other)) (same (desk_at plain at))
       ]
@@ -219,7 +210,7 @@ module _ (plain : Plain) (is : IsPlain plain) (desk session : ℕ) (allowed : ar
       ∙ ap₂ ◌++◌
       (flat_map-same find (λ number. filter (is_numbered session number) (all_entries plain.desks)) 1 (made_of plain session) (λ n least most. old_entries n (omega arith)))
       (flat_map-same find (λ number. filter (is_numbered session number) entries) first (length entries) (λ n least most. new_entries n (omega arith))
-      ∙ each_numbered session first entries left.made numbered)
+      ∙ each_numbered session first entries left.own numbered)
 
   -- The others have made what they had.
   others_entries : (other number : ℕ) → other ≢ session → filter (is_numbered other number) (all_entries after.desks) ≡ filter (is_numbered other number) (all_entries plain.desks)
@@ -227,7 +218,7 @@ module _ (plain : Plain) (is : IsPlain plain) (desk session : ℕ) (allowed : ar
       filter-unchanged (is_numbered other number) entries (all_entries plain.desks) (all_entries after.desks) inserted
       (filter-nothing (is_numbered other number) entries
       (All-weaker (λ entry. entry.actor ≡ session) (λ entry. is_numbered other number entry ≡ false)
-      (λ entry by. ap (λ is. is && (entry.seq == number)) (ne_eqb entry.actor other (λ same. apart (sym same ∙ by)))) entries left.made))
+      (λ entry by. ap (λ is. is && (entry.seq == number)) (ne_eqb entry.actor other (λ same. apart (sym same ∙ by)))) entries left.own))
 
   pub entries_of-others : (other : ℕ) → other ≢ session → entries_of after other ≡ entries_of plain other
   entries_of-others other apart =
@@ -247,21 +238,24 @@ module _ (plain : Plain) (is : IsPlain plain) (desk session : ℕ) (allowed : ar
       ]
 
   -- what stands on a desk of the new entries, and what of them is a session's
+  standing : All (λ entry. entry.desk ≡ desk) entries
+  standing = let there = there in subst (λ number. All (λ entry. entry.desk ≡ number) entries) (is.numbers desk there.desk_least there.desk_most) left.standing
+
   standing-here : standing_on desk entries ≡ entries
-  standing-here = filter-everything (λ entry. entry.desk == desk) entries (All-weaker (λ entry. entry.desk ≡ desk) (λ entry. (entry.desk == desk) ≡ true) (λ entry is. eq-eqb entry.desk desk is) entries left.standing)
+  standing-here = filter-everything (λ entry. entry.desk == desk) entries (All-weaker (λ entry. entry.desk ≡ desk) (λ entry. (entry.desk == desk) ≡ true) (λ entry is. eq-eqb entry.desk desk is) entries standing)
 
   standing-elsewhere : (at : ℕ) → at ≢ desk → standing_on at entries ≡ []
   standing-elsewhere at apart =
       filter-nothing (λ entry. entry.desk == at) entries
-      (All-weaker (λ entry. entry.desk ≡ desk) (λ entry. (entry.desk == at) ≡ false) (λ entry is. ne_eqb entry.desk at (λ same. apart (sym same ∙ is))) entries left.standing)
+      (All-weaker (λ entry. entry.desk ≡ desk) (λ entry. (entry.desk == at) ≡ false) (λ entry is. ne_eqb entry.desk at (λ same. apart (sym same ∙ is))) entries standing)
 
   made_by-session : made_by session entries ≡ entries
-  made_by-session = filter-everything (λ entry. entry.actor == session) entries (All-weaker (λ entry. entry.actor ≡ session) (λ entry. (entry.actor == session) ≡ true) (λ entry is. eq-eqb entry.actor session is) entries left.made)
+  made_by-session = filter-everything (λ entry. entry.actor == session) entries (All-weaker (λ entry. entry.actor ≡ session) (λ entry. (entry.actor == session) ≡ true) (λ entry is. eq-eqb entry.actor session is) entries left.own)
 
   made_by-others : (other : ℕ) → other ≢ session → made_by other entries ≡ []
   made_by-others other apart =
       filter-nothing (λ entry. entry.actor == other) entries
-      (All-weaker (λ entry. entry.actor ≡ session) (λ entry. (entry.actor == other) ≡ false) (λ entry is. ne_eqb entry.actor other (λ same. apart (sym same ∙ is))) entries left.made)
+      (All-weaker (λ entry. entry.actor ≡ session) (λ entry. (entry.actor == other) ≡ false) (λ entry is. ne_eqb entry.actor other (λ same. apart (sym same ∙ is))) entries left.own)
 
   made_by-left : (who : ℕ) → made_by who next.journal ≡ made_by who (desk_at plain desk).journal ++ made_by who entries
   made_by-left who = ap (made_by who) left.grown ∙ filter-append (λ entry. entry.actor == who) (desk_at plain desk).journal entries
@@ -351,8 +345,10 @@ module _ (plain : Plain) (is : IsPlain plain) (desk session : ℕ) (allowed : ar
   -- The call was one of the session.
   pub IsCall-next : IsCall (world_of plain) (world_of after) desk session entries next
   IsCall-next =
+      let there = there in
       record {
         met = Meets-plain plain is desk session allowed;
+        leaves = subst (λ count. Leaves (desk_at plain desk) next session (count + 1) entries) (sym (length-entries_of plain is session there.session_least there.session_most)) left;
         seen_is = ap (λ contents. contents.journal) here;
         counted_is = rw (same_there desk session, allowed) (ap (λ contents. quiet_of contents session) here);
         mine_is = entries_of-session;
@@ -362,4 +358,11 @@ module _ (plain : Plain) (is : IsPlain plain) (desk session : ℕ) (allowed : ar
         quiet_elsewhere = λ at apart. same_quiet session at (λ same. absurd (apart same));
         same_terms = both_ways (λ before later. later.terms ≡ before.terms) left.terms (λ contents. refl);
         same_shares = both_ways (λ before later. later.shares ≡ before.shares) left.shares (λ contents. refl);
+        left_is = λ other may. here;
+        elsewhere_is = λ at other apart may.
+            let there = there in
+            let others = are_there-is after at other may in
+            let least = others.desk_least in
+            elsewhere at (λ same. apart (omega arith));
+        still = Meets-plain after IsPlain-next;
       }

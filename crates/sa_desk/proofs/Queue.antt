@@ -1,10 +1,9 @@
 -- All who wait were queued at the number of steps that was shown last.
-use Rattle.std.proofs.Common.{◌≡◌, ℕ, ◌+◌, ◌/◌, ◌≤◌, ◌≢◌, ◌==◌, Bool, not, false, List, [], ◌∷◌, Option, Some, option_map, All, refl, sym, subst, ◌∙◌}
+use Rattle.std.proofs.Common.{◌≡◌, ℕ, ◌+◌, ◌/◌, ◌≤◌, ◌≢◌, ◌==◌, Bool, not, false, List, [], ◌∷◌, Option, Some, All, refl, sym, subst, ◌∙◌}
 use Rattle.std.specs.Prelude.{⊤}
 use Rattle.std.proofs.lemmas.List.Elements.{All-nil, All-push, All-head, All-tail, All-filter}
-use Rattle.std.specs.Arc.{arc_value}
-use Rattle.sa_value.specs.declared.value.Value.{Value}
 use Rattle.sa_plan.specs.declared.plan.Plan.{Plan}
+use Rattle.sa_meaning.specs.Data.{RunData}
 use Rattle.sa_ast.specs.declared.kind.AskKind.{AskKind}
 use Rattle.sa_ast.specs.declared.kind.KillKind.{KillKind}
 use Rattle.sa_count.specs.declared.report.Report.{Report}
@@ -13,7 +12,7 @@ use Rattle.sa_desk.specs.declared.entry.Event.{Event}
 use Rattle.sa_desk.specs.declared.entry.Event.TheVariants.{Begin, Queued, Refused, Served, Taken, Spent, Withdrawn, KillSent, Waited, WaitSpent, End, Gone, Close}
 use Rattle.sa_desk.specs.declared.request.Request.{Request}
 use Rattle.sa_desk.specs.declared.request.Reply.{Reply}
-use Rattle.sa_desk.specs.State.{Terms, Statement, Execution, Phase, idle, plain, planned, serving, closed, State, start, IsPublished, IsLawful}
+use Rattle.sa_desk.specs.State.{Terms, Statement, Execution, Phase, idle, unplanned, planned, serving, closed, State, start, IsPublished, IsLawful}
 use Rattle.sa_desk.specs.Comes.{ComesIn, Comes, ServesFirst}
 use Rattle.sa_desk.specs.After.{after_event, after, begun, served, without}
 use Rattle.sa_desk.specs.Runs.{state_of, Runs}
@@ -80,14 +79,14 @@ module _ (terms : Terms) (doomed : Bool) (replies : List Reply) (desk actor seq 
 
   on_kill : (phase : Phase) (number : ℕ) (kind : KillKind) → Goal phase (KillSent number kind)
   on_kill idle number kind comes aligned = tt
-  on_kill (plain statement) number kind comes aligned = tt
+  on_kill (unplanned statement) number kind comes aligned = tt
   on_kill (planned statement execution) number kind comes aligned = aligned
   on_kill (serving statement execution steps turn) number kind comes aligned = absurd comes
   on_kill closed number kind comes aligned = absurd comes
 
   on_waited : (phase : Phase) (number steps : ℕ) → Goal phase (Waited number steps)
   on_waited idle number steps comes aligned = tt
-  on_waited (plain statement) number steps comes aligned = tt
+  on_waited (unplanned statement) number steps comes aligned = tt
   on_waited (planned statement execution) number steps comes aligned =
       AllAt-published terms.quantum execution execution.queue steps refl comes aligned
   on_waited (serving statement execution shown turn) number steps comes aligned = absurd comes
@@ -95,15 +94,15 @@ module _ (terms : Terms) (doomed : Bool) (replies : List Reply) (desk actor seq 
 
   on_wait_spent : (phase : Phase) (number steps turns : ℕ) → Goal phase (WaitSpent number steps turns)
   on_wait_spent idle number steps turns comes aligned = tt
-  on_wait_spent (plain statement) number steps turns comes aligned = tt
+  on_wait_spent (unplanned statement) number steps turns comes aligned = tt
   on_wait_spent (planned statement execution) number steps turns comes aligned =
       AllAt-published terms.quantum execution execution.queue steps refl comes aligned
   on_wait_spent (serving statement execution shown turn) number steps turns comes aligned = absurd comes
   on_wait_spent closed number steps turns comes aligned = absurd comes
 
-  on_begun : (statement : Statement) (plan : Option Plan) (values : Option (List Value)) → IsAligned terms.quantum (begun statement plan values)
-  on_begun statement (Some plan) (Some values) = All-nil (λ (request : Request). request.at ≡ 0)
-  on_begun statement plan values = tt
+  on_begun : (statement : Statement) (plan : Option Plan) (tables : Option RunData) → IsAligned terms.quantum (begun statement plan tables)
+  on_begun statement (Some plan) (Some tables) = All-nil (λ (request : Request). request.at ≡ 0)
+  on_begun statement plan tables = tt
 
   on_first : (statement : Statement) (execution : Execution) (queue : List Request) (event : Event) (asker number : ℕ) (report : Report) (at : ℕ)
       → ServesFirst terms statement execution queue (the_entry event) asker number report → AllAt at queue
@@ -131,8 +130,8 @@ module _ (terms : Terms) (doomed : Bool) (replies : List Reply) (desk actor seq 
   on_served phase asker number report comes aligned = absurd comes
 
   aligned_after : (phase : Phase) (event : Event) → Goal phase event
-  aligned_after phase (Begin number text version plan values) comes aligned =
-      on_begun (record { number = number; begin = seq; turn = turn; killed = false }) (option_map arc_value plan) (option_map arc_value values)
+  aligned_after phase (Begin number text version plan tables) comes aligned =
+      on_begun (record { number = number; begin = seq; turn = turn; killed = false }) plan tables
   aligned_after phase (Queued number kind at budget) comes aligned = on_asks phase number kind at budget comes aligned
   aligned_after phase (Refused number why) comes aligned = aligned
   aligned_after phase (Served asker number report) comes aligned = on_served phase asker number report comes aligned

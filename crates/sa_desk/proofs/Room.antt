@@ -2,7 +2,7 @@
 use Rattle.std.proofs.Common.{◌+◌, ◌<◌, ◌≤◌, List, [], ◌∷◌, ◌++◌, length, length-append, ap, vec_len, vec_capacity, arith}
 use Rattle.sa_desk.specs.declared.desk.Desk.TheInside.{Inside}
 use Rattle.sa_desk.specs.declared.entry.Entry.{Entry}
-use Rattle.sa_desk.specs.Desk.{contents_of, IsReady}
+use Rattle.sa_desk.specs.inner.Desk.{contents_of, IsReady}
 use Rattle.sa_desk.proofs.Capacity.{journal_fits}
 use Rattle.sa_desk.proofs.Seats.{requests_fit}
 use Rattle.sa_desk.proofs.Grown.{IsJournal}

@@ -4,3 +4,8 @@ pub mod Talk
 pub mod On
 pub mod Killed
 pub mod Shown
+pub mod Outline
+pub mod Request
+pub mod Answered
+pub mod Stays
+pub mod Others

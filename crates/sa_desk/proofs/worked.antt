@@ -8,3 +8,4 @@ pub mod KilledQuery
 pub mod KilledConnection
 pub mod Withdrawn
 pub mod Waited
+pub mod program

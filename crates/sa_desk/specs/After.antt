@@ -1,22 +1,21 @@
 -- What an entry leaves of a desk's state.
-use Rattle.std.specs.Prelude.{ℕ, ◌+◌, true, false, not, ◌==◌, ◌||◌, Bool, List, [], ◌∷◌, ◌++◌, filter, Option, Some, None, option_map, if◌then◌else◌}
-use Rattle.std.specs.Arc.{arc_value}
+use Rattle.std.specs.Prelude.{ℕ, ◌+◌, true, false, not, ◌==◌, ◌||◌, Bool, List, [], ◌∷◌, ◌++◌, filter, Option, Some, None, if◌then◌else◌}
 use Rattle.sa_ast.specs.declared.kind.KillKind.{KillKind}
 use Rattle.sa_ast.specs.declared.kind.KillKind.TheVariants.{Query, Connection}
-use Rattle.sa_value.specs.declared.value.Value.{Value}
 use Rattle.sa_plan.specs.declared.plan.Plan.{Plan}
+use Rattle.sa_meaning.specs.Data.{RunData}
 use Rattle.sa_desk.specs.declared.entry.Entry.{Entry}
 use Rattle.sa_desk.specs.declared.entry.Event.{Event}
 use Rattle.sa_desk.specs.declared.entry.Event.TheVariants.{Begin, Queued, Refused, Served, Taken, Spent, Withdrawn, KillSent, Waited, WaitSpent, End, Gone, Close}
 use Rattle.sa_desk.specs.declared.request.Request.{Request}
 use Rattle.sa_desk.specs.declared.request.Reply.{Reply}
-use Rattle.sa_desk.specs.State.{Terms, Statement, Execution, Phase, idle, plain, planned, serving, closed, State}
+use Rattle.sa_desk.specs.State.{Terms, Statement, Execution, Phase, idle, unplanned, planned, serving, closed, State}
 
--- A statement has just begun, with a plan over values or without.
-abbrev pub begun : Statement → Option Plan → Option (List Value) → Phase
-begun statement (Some plan) (Some values) =
-    planned statement (record { plan = plan; values = values; shown = 0; queue = []; owed = None })
-begun statement plan values = plain statement
+-- A statement has just begun, with a plan over tables or without.
+abbrev pub begun : Statement → Option Plan → Option RunData → Phase
+begun statement (Some plan) (Some tables) =
+    planned statement (record { plan = plan; tables = tables; shown = 0; queue = []; owed = None })
+begun statement plan tables = unplanned statement
 
 -- the requests, and the answers, without those of an actor
 abbrev pub without : ℕ → List Request → List Request
@@ -65,14 +64,14 @@ after_serving quantum phase steps turn = phase
 
 -- the number of the Begin entry of the statement that is on
 abbrev pub begin_of : Phase → ℕ
-begin_of (plain statement) = statement.begin
+begin_of (unplanned statement) = statement.begin
 begin_of (planned statement execution) = statement.begin
 begin_of (serving statement execution steps turn) = statement.begin
 begin_of phase = 0
 
 -- The statement that is on, if one is, is killed.
 abbrev pub killed : Phase → Phase
-killed (plain statement) = plain (record statement { killed = true })
+killed (unplanned statement) = unplanned (record statement { killed = true })
 killed (planned statement execution) = planned (record statement { killed = true }) execution
 killed phase = phase
 
@@ -83,9 +82,9 @@ dooms Connection = true
 
 -- The state after this event.
 abbrev pub after_event : Terms → State → Entry → Event → State
-after_event terms state entry (Begin number text version plan values) =
+after_event terms state entry (Begin number text version plan tables) =
     let statement : Statement = record { number = number; begin = entry.seq; turn = entry.turn; killed = false } in
-    record state { phase = begun statement (option_map arc_value plan) (option_map arc_value values) }
+    record state { phase = begun statement plan tables }
 after_event terms state entry (Queued number kind at budget) =
     record state { phase = queued state.phase (record { asker = entry.actor; request = number; at = at }) }
 after_event terms state entry (Served asker number report) =

@@ -10,11 +10,15 @@ use Rattle.sa_desk.specs.declared.entry.RefusedWhy.TheVariants.{NotExplainable, 
 use Rattle.sa_desk.specs.declared.outcome.Outcome.TheVariants.{Interrupted}
 use Rattle.sa_desk.specs.declared.request.Request.{Request}
 use Rattle.sa_desk.specs.declared.request.Reply.{Reply}
-use Rattle.sa_desk.specs.State.{Terms, Statement, Execution, Phase, idle, plain, planned, serving, closed, State, IsLawful, IsPublished, HasNone}
+use Rattle.sa_desk.specs.State.{Terms, Statement, Execution, Phase, idle, unplanned, planned, serving, closed, State, IsLawful, IsPublished, HasNone}
 
 -- The entry is of the desk's own session.
 abbrev pub IsOwn : Terms → Entry → Type 0
 IsOwn terms entry = entry.actor ≡ terms.desk
+
+-- The version of the tables that a statement may read: the first one, as no statement changes them.
+abbrev pub IsVersion : ℕ → Type 0
+IsVersion version = version ≡ 0
 
 -- The actor's request of this number waits, or was served.
 abbrev pub IsQueued : ℕ → ℕ → List Request → Type 0
@@ -29,7 +33,7 @@ pub record Serves (terms : Terms) (statement : Statement) (execution : Execution
   pub own : IsOwn terms entry
   pub asked : (first.asker ≡ asker) × (first.request ≡ number)
   pub turn : entry.turn ≡ statement.turn + first.at / terms.quantum + 1
-  pub counted : report ≡ counts statement.number execution.plan execution.values report.steps
+  pub counted : report ≡ counts statement.number execution.plan execution.tables report.steps
   pub least : first.at ≤ report.steps
   pub most : report.steps ≤ first.at + terms.quantum
 
@@ -51,9 +55,9 @@ pub record Settles (execution : Execution) (entry : Entry) (steps : ℕ) : Type 
 
 -- The table of entries and phases. Whatever isn't listed never comes.
 abbrev pub ComesIn : Terms → State → Entry → Phase → Event → Type 0
-ComesIn terms state entry idle (Begin number text version plan values) =
-    IsOwn terms entry × (state.doomed ≡ false) × (version ≡ 0) × (IsSome plan ↔ IsSome values)
-ComesIn terms state entry phase (Begin number text version plan values) = ⊥
+ComesIn terms state entry idle (Begin number text version plan tables) =
+    IsOwn terms entry × (state.doomed ≡ false) × IsVersion version × (IsSome plan ↔ IsSome tables)
+ComesIn terms state entry phase (Begin number text version plan tables) = ⊥
 ComesIn terms state entry idle (Gone number) = IsOwn terms entry × (state.doomed ≡ true)
 ComesIn terms state entry phase (Gone number) = ⊥
 -- a request
@@ -61,7 +65,7 @@ ComesIn terms state entry (planned statement execution) (Queued number kind at b
     HasNone entry.actor state.phase state.replies × IsPublished terms.quantum execution at × (budget ≡ terms.turns)
 ComesIn terms state entry phase (Queued number kind at budget) = ⊥
 ComesIn terms state entry idle (Refused number NotExplainable) = ⊤
-ComesIn terms state entry (plain statement) (Refused number NotExplainable) = ⊤
+ComesIn terms state entry (unplanned statement) (Refused number NotExplainable) = ⊤
 ComesIn terms state entry closed (Refused number NoSuchThread) = ⊤
 ComesIn terms state entry phase (Refused number why) = ⊥
 -- its answer
@@ -89,7 +93,7 @@ ComesIn terms state entry (serving statement execution number turn) (WaitSpent w
 ComesIn terms state entry closed (WaitSpent waiter steps turns) = ⊥
 ComesIn terms state entry phase (WaitSpent waiter steps turns) = IsLawful terms.quantum phase steps
 -- the end of a statement, and of the session
-ComesIn terms state entry (plain statement) (End number outcome steps) =
+ComesIn terms state entry (unplanned statement) (End number outcome steps) =
     Ends terms statement entry number (outcome ≡ Interrupted) × (steps ≡ 0)
 ComesIn terms state entry (planned statement execution) (End number outcome steps) =
     Ends terms statement entry number (outcome ≡ Interrupted) × Settles execution entry steps

@@ -2,7 +2,7 @@
 use Rattle.std.specs.Prelude.{◌≡◌, ℕ, ◌+◌, ◌-◌, ◌<◌, ◌≤◌, ◌^◌, sum, List, ◌++◌, length, slice_index, Option, IfSome, All}
 use Rattle.sa_desk.specs.declared.entry.Entry.{Entry}
 use Rattle.sa_desk.specs.declared.entry.Event.{Event}
-use Rattle.sa_desk.specs.declared.request.Wait.{Wait}
+use Rattle.sa_desk.specs.declared.request.OpenWait.{OpenWait}
 use Rattle.sa_desk.specs.declared.stamp.Stamp.{Stamp}
 use Rattle.sa_desk.specs.State.{Terms, Phase, State, IsLawful}
 use Rattle.sa_desk.specs.Runs.{state_of, IsDeskRun, IsEntryOf}
@@ -19,7 +19,7 @@ pub record Contents : Type 0 where
   -- for each session, how often its last request here was polled without an answer
   pub polls : List ℕ
   -- for each session, its open wait here
-  pub waits : List (Option Wait)
+  pub waits : List (Option OpenWait)
 
 -- what the journal leaves
 abbrev pub state : Contents → State
@@ -33,7 +33,7 @@ abbrev pub IsWithinShares : List ℕ → List Entry → Type 0
 IsWithinShares shares journal = (session : ℕ) → session < length shares → charge (session + 1) journal ≤ slice_index shares session
 
 -- An open wait has looked less often than it lasts.
-abbrev pub IsPatient : ℕ → Option Wait → Type 0
+abbrev pub IsPatient : ℕ → Option OpenWait → Type 0
 IsPatient turns wait = IfSome wait (λ wait. wait.looks < turns)
 
 -- What is true of every desk.

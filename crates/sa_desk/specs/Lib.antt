@@ -7,9 +7,9 @@ pub mod Contents
 pub mod New
 pub mod Serving
 pub mod World
+pub mod Own
 pub mod call
 pub mod law
-pub mod Desk
+pub mod program
 pub mod Plain
-pub mod PlainDesks
-pub mod Parts
+pub mod inner

@@ -1,12 +1,10 @@
 -- Desks that are called on one thread.
-use Rattle.std.specs.Prelude.{◌≡◌, ℕ, ◌+◌, ◌-◌, ◌<◌, ◌≤◌, ◌==◌, ◌&&◌, Bool, List, [], None, length, filter, map, slice_index, slice_index_or, nat_lt, if◌then◌else◌, slice_set}
+use Rattle.std.specs.Prelude.{◌≡◌, ℕ, ◌+◌, ◌-◌, ◌≤◌, ◌==◌, ◌&&◌, Bool, List, length, filter, map, slice_index, slice_index_or, nat_lt, if◌then◌else◌}
 use Rattle.std.specs.List.{flat_map, range_with_len, sum_by}
 use Rattle.sa_desk.specs.declared.entry.Entry.{Entry}
-use Rattle.sa_desk.specs.declared.stamp.Caller.{Caller}
-use Rattle.sa_desk.specs.declared.stamp.Stamp.{Stamp}
-use Rattle.sa_desk.specs.New.{new_desk}
+use Rattle.sa_desk.specs.New.{no_desk}
 use Rattle.sa_desk.specs.Contents.{Contents, IsSound}
-use Rattle.sa_desk.specs.World.{World, Quiet, quiet_of, made_by, standing_on}
+use Rattle.sa_desk.specs.World.{World, Quiet, no_quiet, quiet_of, made_by, standing_on}
 
 -- What each desk holds, and how many entries each session has made.
 pub record Plain : Type 0 where
@@ -26,10 +24,6 @@ abbrev pub entries_of : Plain → ℕ → List Entry
 entries_of plain session =
     flat_map (λ number. filter (is_numbered session number) (all_entries plain.desks)) (range_with_len 1 (slice_index plain.made (session - 1)))
 
--- what stands for a desk that isn't there
-abbrev pub no_desk : Contents
-no_desk = new_desk 0 1 1 []
-
 -- the desk with this number
 abbrev pub desk_at : Plain → ℕ → Contents
 desk_at plain desk = slice_index_or plain.desks (desk - 1) no_desk
@@ -43,9 +37,6 @@ abbrev pub are_there : Plain → (desk session : ℕ) → Bool
 are_there plain desk session = is_there plain desk && is_there plain session
 
 -- what a session has counted at a desk: nothing where either isn't there
-abbrev pub no_quiet : Quiet
-no_quiet = record { published = 0; polls = 0; wait = None }
-
 abbrev pub quiet_at : Plain → (session desk : ℕ) → Quiet
 quiet_at plain session desk = if are_there plain desk session then quiet_of (desk_at plain desk) session else no_quiet
 
@@ -60,6 +51,10 @@ world_of plain = record {
   terms = λ desk. (desk_at plain desk).terms;
   shares = λ desk. (desk_at plain desk).shares;
 }
+
+-- As many desks are there.
+abbrev pub SameDesks : Plain → Plain → Type 0
+SameDesks before later = length later.desks ≡ length before.desks
 
 -- A session's entries on a desk are those of its own that stand there, and they are numbered 1, 2 and so on.
 pub record AreOwn (plain : Plain) (session : ℕ) : Type 0 where
@@ -76,26 +71,3 @@ pub record IsPlain (plain : Plain) : Type 0 where
   pub numbers : (desk : ℕ) → 1 ≤ desk → desk ≤ length plain.desks → (desk_at plain desk).terms.desk ≡ desk
   pub shares : (desk : ℕ) → 1 ≤ desk → desk ≤ length plain.desks → length (desk_at plain desk).shares ≡ length plain.desks
   pub entries : (session : ℕ) → 1 ≤ session → session ≤ length plain.desks → AreOwn plain session
-
--- New desks, numbered 1, 2 and so on, with a share for each of their sessions.
-pub record AreNew (desks : List Contents) : Type 0 where
-  pub few : length desks ≤ 16
-  pub sound : (place : ℕ) → place < length desks → IsSound (slice_index_or desks place no_desk)
-  pub empty : (place : ℕ) → place < length desks → (slice_index_or desks place no_desk).journal ≡ []
-  pub numbers : (place : ℕ) → place < length desks → (slice_index_or desks place no_desk).terms.desk ≡ place + 1
-  pub shares : (place : ℕ) → place < length desks → length (slice_index_or desks place no_desk).shares ≡ length desks
-
--- how many entries a session has made
-abbrev pub made_of : Plain → ℕ → ℕ
-made_of plain session = slice_index plain.made (session - 1)
-
--- the stamp of a session's next entry, by how many it has made
-abbrev pub stamp_at : Plain → Caller → Stamp
-stamp_at plain me = record { actor = me.actor; seq = made_of plain me.actor + 1; turn = me.turn }
-
--- The desks after a call that has made these entries and left this: all other desks stay.
-abbrev pub next_plain : Plain → (desk session : ℕ) → List Entry → Contents → Plain
-next_plain plain desk session entries left = record {
-  desks = slice_set plain.desks (desk - 1) left;
-  made = slice_set plain.made (session - 1) (made_of plain session + length entries);
-}

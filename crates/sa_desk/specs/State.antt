@@ -1,8 +1,8 @@
 -- What a desk's journal, read so far, says of its session.
 use Rattle.std.specs.Prelude.{◌≡◌, ◌≢◌, ⊤, ℕ, ◌*◌, ◌<◌, ◌≤◌, ◌⊎◌, Bool, false, List, [], length, Option, None, All}
-use Rattle.sa_value.specs.declared.value.Value.{Value}
 use Rattle.sa_plan.specs.declared.plan.Plan.{Plan}
-use Rattle.sa_meaning.specs.Item.{items}
+use Rattle.sa_meaning.specs.Data.{RunData}
+use Rattle.sa_meaning.specs.Items.{items}
 use Rattle.sa_desk.specs.declared.request.Request.{Request}
 use Rattle.sa_desk.specs.declared.request.Reply.{Reply}
 
@@ -23,9 +23,9 @@ pub record Statement : Type 0 where
 
 -- What other sessions may look into while a statement with a plan is on.
 pub record Execution : Type 0 where
-  -- the plan, and the values that it is run over
+  -- the plan, and the tables that it is run over
   pub plan : Plan
-  pub values : List Value
+  pub tables : RunData
   -- the last number of steps that an entry shows
   pub shown : ℕ
   -- the requests that wait, oldest first
@@ -37,7 +37,7 @@ pub record Execution : Type 0 where
 -- such a statement, all with one number of steps and in one turn, or is done.
 pub data Phase : Type 0 where
   idle : Phase
-  plain : (statement : Statement) → Phase
+  unplanned : (statement : Statement) → Phase
   planned : (statement : Statement) (execution : Execution) → Phase
   serving : (statement : Statement) (execution : Execution) (steps turn : ℕ) → Phase
   closed : Phase
@@ -56,7 +56,7 @@ start = record { phase = idle; doomed = false; replies = [] }
 -- the requests that wait
 abbrev pub queue_of : Phase → List Request
 queue_of idle = []
-queue_of (plain statement) = []
+queue_of (unplanned statement) = []
 queue_of (planned statement execution) = execution.queue
 queue_of (serving statement execution steps turn) = execution.queue
 queue_of closed = []
@@ -71,14 +71,14 @@ IsSettled phase = ⊤
 -- last number of all, not below what was shown, and just that while requests wait.
 pub record IsPublished (quantum : ℕ) (execution : Execution) (steps : ℕ) : Type 0 where
   pub whole_turns : (turns : ℕ) × (steps ≡ turns * quantum)
-  pub unfinished : (steps ≡ 0) ⊎ (steps < length (items execution.plan execution.values))
+  pub unfinished : (steps ≡ 0) ⊎ (steps < length (items execution.plan execution.tables))
   pub rising : execution.shown ≤ steps
   pub fixed : execution.queue ≢ [] → steps ≡ execution.shown
 
 -- The lawful numbers: 0 where nothing with a plan is on.
 abbrev pub IsLawful : ℕ → Phase → ℕ → Type 0
 IsLawful quantum idle steps = steps ≡ 0
-IsLawful quantum (plain statement) steps = steps ≡ 0
+IsLawful quantum (unplanned statement) steps = steps ≡ 0
 IsLawful quantum (planned statement execution) steps = IsPublished quantum execution steps
 IsLawful quantum (serving statement execution number turn) steps = IsPublished quantum execution steps
 IsLawful quantum closed steps = steps ≡ 0

@@ -1,7 +1,8 @@
 -- What whoever calls a number of desks knows of them.
-use Rattle.std.specs.Prelude.{◌≡◌, ◌≢◌, ℕ, ◌+◌, ◌-◌, ◌==◌, Bool, List, ◌++◌, length, filter, Option, None, All, slice_index, slice_index_or, if◌then◌else◌}
+use Rattle.std.specs.Prelude.{◌≡◌, ◌≢◌, ℕ, ◌+◌, ◌-◌, ◌≤◌, ◌==◌, Bool, true, List, [], ◌++◌, length, map, filter, Option, None, All, slice_index, slice_index_or, if◌then◌else◌}
+use Rattle.std.specs.List.{range_with_len}
 use Rattle.sa_desk.specs.declared.entry.Entry.{Entry}
-use Rattle.sa_desk.specs.declared.request.Wait.{Wait}
+use Rattle.sa_desk.specs.declared.request.OpenWait.{OpenWait}
 use Rattle.sa_desk.specs.declared.stamp.Caller.{Caller}
 use Rattle.sa_desk.specs.declared.stamp.Stamp.{Stamp}
 use Rattle.sa_desk.specs.State.{Terms}
@@ -14,7 +15,7 @@ pub record Quiet : Type 0 where
   -- how often its last request there was polled without an answer
   pub polls : ℕ
   -- its open wait there
-  pub wait : Option Wait
+  pub wait : Option OpenWait
 
 -- what a desk counts for a session
 abbrev pub quiet_of : Contents → ℕ → Quiet
@@ -23,6 +24,22 @@ quiet_of desk session = record {
   polls = slice_index desk.polls (session - 1);
   wait = slice_index_or desk.waits (session - 1) None;
 }
+
+-- What one call of a session leaves of a desk: the desk as before, but for these entries at the end of its journal, which are the
+-- session's and numbered from this number on, and for what the session has counted.
+pub record Leaves (before left : Contents) (session number : ℕ) (entries : List Entry) : Type 0 where
+  pub sound : IsSound left
+  pub terms : left.terms ≡ before.terms
+  pub shares : left.shares ≡ before.shares
+  pub grown : left.journal ≡ before.journal ++ entries
+  pub standing : All (λ entry. entry.desk ≡ before.terms.desk) entries
+  pub own : All (λ entry. entry.actor ≡ session) entries
+  pub numbered : map (λ entry. entry.seq) entries ≡ range_with_len number (length entries)
+  pub quiet : (other : ℕ) → 1 ≤ other → other ≢ session → quiet_of left other ≡ quiet_of before other
+
+-- nothing is counted
+abbrev pub no_quiet : Quiet
+no_quiet = record { published = 0; polls = 0; wait = None }
 
 -- Desks are named by their numbers, and so are sessions.
 pub record World : Type 0 where
@@ -64,6 +81,13 @@ pub record Meets (world : World) (desk session : ℕ) : Type 0 where
   pub own : made_by session (world.contents desk).journal ≡ standing_on desk (world.mine session)
   pub counted : quiet_of (world.contents desk) session ≡ world.quiet session desk
 
+-- Nobody has called yet: each session meets each desk that may be called for it, and has made, seen and counted nothing.
+pub record IsFirst (world : World) : Type 0 where
+  pub met : (desk session : ℕ) → world.may_call desk session ≡ true → Meets world desk session
+  pub mine : (session : ℕ) → world.mine session ≡ []
+  pub seen : (session desk : ℕ) → world.seen session desk ≡ []
+  pub quiet : (session desk : ℕ) → world.quiet session desk ≡ no_quiet
+
 -- A list begins with another.
 abbrev pub Begins : List Entry → List Entry → Type 0
 Begins first whole = (rest : List Entry) × (whole ≡ first ++ rest)
@@ -71,6 +95,7 @@ Begins first whole = (rest : List Entry) × (whole ≡ first ++ rest)
 -- One call of a session at a desk has led from one world to the next. It has made these entries and left this at the desk.
 pub record IsCall (before later : World) (desk session : ℕ) (entries : List Entry) (left : Contents) : Type 0 where
   pub met : Meets before desk session
+  pub leaves : Leaves (before.contents desk) left session (length (before.mine session) + 1) entries
   -- the session has now seen what it left
   pub seen_is : later.seen session desk ≡ left.journal
   pub counted_is : later.quiet session desk ≡ quiet_of left session
@@ -83,3 +108,8 @@ pub record IsCall (before later : World) (desk session : ℕ) (entries : List En
   pub quiet_elsewhere : (at : ℕ) → at ≢ desk → later.quiet session at ≡ before.quiet session at
   pub same_terms : (at : ℕ) → later.terms at ≡ before.terms at
   pub same_shares : (at : ℕ) → later.shares at ≡ before.shares at
+  -- where the desk may still be called it holds what was left there, and any other desk holds what it held
+  pub left_is : (other : ℕ) → later.may_call desk other ≡ true → later.contents desk ≡ left
+  pub elsewhere_is : (at other : ℕ) → at ≢ desk → later.may_call at other ≡ true → later.contents at ≡ before.contents at
+  -- each session still meets each desk that may be called for it
+  pub still : (at other : ℕ) → later.may_call at other ≡ true → Meets later at other

@@ -4,8 +4,6 @@ ghost use Rattle.sa_desk.specs.New.{MayMake, new_desk};
 
 mod asker;
 mod finishing;
-#[cfg(test)]
-pub mod may;
 mod owner;
 mod parts;
 mod seats;
@@ -15,7 +13,7 @@ mod waits;
 use crate::entry::Entry;
 use crate::journal::Entries;
 use crate::phase::Phase;
-use crate::request::{Reply, Request, Wait};
+use crate::request::{OpenWait, Reply, Request};
 use arrayvec::ArrayVec;
 use sa_value::OutOfMemory;
 use std::alloc::Global;
@@ -39,7 +37,7 @@ pub struct Desk {
     queue: ArrayVec<Request, 16>,
     replies: ArrayVec<Reply, 16>,
     polls: ArrayVec<u64, 16>,
-    waits: ArrayVec<Option<Wait>, 16>,
+    waits: ArrayVec<Option<OpenWait>, 16>,
 }
 
 impl Model for Desk {
@@ -47,7 +45,13 @@ impl Model for Desk {
 
     ghost Value = { Contents };
 
-    ghost use Rattle.sa_desk.specs.Desk.{contents_of, IsReady};
+    ghost use Rattle.std.specs.Coded.{codes};
+    ghost use Rattle.sa_cond.specs.contracts.cond.Cond as cond;
+    ghost use Rattle.sa_cond.specs.contracts.expr.Expr as expr;
+
+    ghost coded = { Prim.hlevel (codes, cond.the_row.coded, expr.the_row.coded) };
+
+    ghost use Rattle.sa_desk.specs.inner.Desk.{contents_of, IsReady};
 
     ghost view = { contents_of };
 
@@ -86,9 +90,38 @@ impl Desk {
 
     /// The number of entries in its journal.
     pub fn len(&self) -> u32
-        ensures { result ≡ length self.now.journal }
+        ensures count { result ≡ length self.now.journal }
+        ensures sound { IsSound self.now }
     {
         self.journal.len() as u32
+    }
+
+    /// Its number, which is that of its session.
+    pub fn number(&self) -> u32
+        ensures { result ≡ self.now.terms.desk }
+    {
+        self.number
+    }
+
+    /// How many steps a turn makes at most.
+    pub fn quantum(&self) -> u32
+        ensures { result ≡ self.now.terms.quantum }
+    {
+        self.quantum
+    }
+
+    /// How many turns a request or a wait lasts.
+    pub fn turns(&self) -> u64
+        ensures { result ≡ self.now.terms.turns }
+    {
+        self.turns
+    }
+
+    /// Each session's share of the journal.
+    pub fn shares(&self) -> &[u32]
+        ensures { result.now ≡ self.now.shares }
+    {
+        self.shares.as_slice()
     }
 
     /// Its journal. It takes no memory.

@@ -1,9 +1,9 @@
 use crate::outcome::Outcome;
 use sa_ast::{AskKind, KillKind};
 use sa_count::Report;
-use sa_plan::Plan;
-use sa_value::{Text, Values};
-use std::sync::Arc;
+use sa_plan::SharedPlan;
+use sa_table::SharedTables;
+use sa_value::Text;
 
 /// A line of a desk's journal.
 #[derive(Debug, Drop)]
@@ -25,15 +25,15 @@ pub struct Entry {
 /// fields are this project's own.
 #[derive(Debug, Drop)]
 pub enum Event {
-    /// The desk's own session begins a statement. A SELECT has its plan, and the values that it reads.
+    /// The desk's own session begins a statement. A SELECT has its plan, and the tables that it reads.
     Begin {
         statement: u32,
         /// The statement's text.
         text: Text,
         /// The version of the tables that it reads.
         version: u64,
-        plan: Option<Arc<Plan>>,
-        values: Option<Arc<Values>>,
+        plan: Option<SharedPlan>,
+        tables: Option<SharedTables>,
     },
     /// A request was put into the desk's queue.
     Queued {

@@ -21,11 +21,11 @@ pub use desk::Desk;
 pub use desks::Desks;
 pub use entry::{Entry, Event, RefusedWhy};
 pub use journal::{Entries, Journals};
-pub use law::{interrupted_is_killed, requests_end_once, shown_plan_runs};
+pub use law::{
+    interrupted_is_killed, kill_stays, others_keep, outline_is, reply_is_served, request_is,
+    requests_end_once, shown_plan_runs,
+};
 pub use outcome::{Finish, Outcome, StepStop};
 pub use plain::PlainDesks;
-pub use request::{Reply, Request, Wait};
+pub use request::{OpenWait, Reply, Request};
 pub use stamp::{Caller, Stamp};
-
-#[cfg(test)]
-mod tests;

@@ -1,8 +1,8 @@
 use sa_ast::AskKind;
 use sa_count::Report;
-use sa_plan::Plan;
+use sa_plan::SharedPlan;
+use sa_query::Refusal;
 use sa_value::{Rows, Text, Texts};
-use std::sync::Arc;
 
 /// How a statement ended.
 #[derive(Debug, Drop)]
@@ -14,11 +14,11 @@ pub enum Outcome {
     },
     /// An EXPLAIN showed this plan.
     PlanShown {
-        plan: Arc<Plan>,
+        plan: SharedPlan,
     },
     /// An ANALYZE ran this plan, and counted this.
     Analyzed {
-        plan: Arc<Plan>,
+        plan: SharedPlan,
         report: Report,
     },
     /// A SHOW was answered from this desk, by a run of the statement whose Begin has this number.
@@ -40,6 +40,8 @@ pub enum Outcome {
     Waited {
         steps: u64,
     },
+    /// The statement's text was refused.
+    Refused(Refusal),
     /// The session that was named isn't there, or is done.
     NoSuchThread,
     /// The session that was named runs no statement with a plan.
@@ -71,7 +73,7 @@ pub enum Finish<R> {
     /// A SELECT ran to its end.
     Rows { names: Texts, run: R },
     /// An ANALYZE ran to its end.
-    Analyzed { plan: Arc<Plan>, run: R },
+    Analyzed { plan: SharedPlan, run: R },
     /// The run stopped before its end.
     Broken { fault: StepStop, run: R },
 }

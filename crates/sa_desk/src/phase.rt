@@ -4,7 +4,7 @@ pub enum Phase {
     /// It is between two statements.
     Idle,
     /// It runs a statement without a plan.
-    Plain(On),
+    Unplanned(On),
     /// It runs a statement with a plan, which other sessions may look into.
     Planned(On),
     /// It is done.

@@ -23,7 +23,7 @@ pub struct Reply {
 
 /// A wait that is open: a session looks until so many steps are published.
 #[derive(Clone, Copy, Debug, PartialEq, Eq)]
-pub struct Wait {
+pub struct OpenWait {
     /// The number of the session's statement.
     pub statement: u32,
     /// How many steps it waits for.

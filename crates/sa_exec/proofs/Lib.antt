@@ -1,3 +1,6 @@
-pub mod Items
-pub mod LaidOut
-pub mod Sound
+pub mod OnlyLevel
+pub mod Cells
+pub mod Passing
+pub mod PlaceLemmas
+pub mod IsAtLemmas
+pub mod SoundLemmas

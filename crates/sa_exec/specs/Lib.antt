@@ -1,4 +1,2 @@
-pub mod Item
-pub mod Progress
-pub mod LaidOut
-pub mod Run
+pub mod Step
+pub mod inner

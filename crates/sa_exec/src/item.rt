@@ -1,56 +1,77 @@
-ghost use Rattle.std.specs.Prelude.{◌≡◌, ◌++◌, IfOk, OnOk, All};
-ghost use Rattle.sa_value.specs.Compare.{CanCompare};
-ghost use Rattle.sa_exec.specs.Item.{passes};
-ghost use Rattle.sa_exec.specs.LaidOut.{layout_for, IsLaidOut};
+ghost use Rattle.std.specs.Prelude.{◌≡◌, ◌<◌, ◌↔◌, ◌++◌, OnOk, OnErr, length};
+ghost use Rattle.sa_meaning.specs.Output.{rows_from};
+ghost use Rattle.sa_exec.specs.Step.{most_rows};
+ghost use Rattle.sa_exec.specs.inner.Place.{only_level, next_item, state_after, IsEmit, IsNoRead, IsFull};
+ghost use Rattle.sa_exec.specs.inner.Ready.{IsReady};
 
-use sa_value::{CompareOp, OutOfMemory, Truth, Value, ValueRef, compare};
+use crate::emit::keep;
+use crate::level::{LevelState, Place};
+use crate::pass::passes;
+use crate::step::StepFault;
+use sa_plan::Plan;
+use sa_table::Tables;
+use sa_value::Rows;
 use std::alloc::Global;
 
-/// An item of a run, as it is laid out before the first step.
-#[derive(Clone, Copy, Debug)]
-pub enum Item {
-    /// The table is opened.
-    Open,
-    /// A value is read, which passed where its comparison is TRUE.
-    Read { passed: bool },
-    /// The value in this place, from 0 on, is given out.
-    Emit { row: usize },
-}
-
-/// The items of the run that compares each of these values with the literal.
-pub fn lay_out(
+/// Makes the next item of a run: most of them read a row.
+#[inline(always)]
+pub(crate) fn make_item(
     alloc: Global,
-    values: &[Value],
-    op: CompareOp,
-    literal: i64,
-) -> Result<Vec<Item>, OutOfMemory>
-    requires { All (λ value. CanCompare value (Value.Int literal)) values.now }
-    ensures { IfOk result (λ items. IsLaidOut op literal values.now items.items) }
+    plan: &Plan,
+    tables: &Tables,
+    state: &mut LevelState,
+    rows: &mut Rows,
+) -> Result<(), StepFault>
+    requires { IsReady tables.now plan.now state.old }
+    ensures ok { OnOk result (state.new ≡ state_after tables.now (only_level plan.now) state.old) }
+    ensures rows { OnOk result
+        (rows.new ≡ rows.old ++ rows_from (next_item tables.now plan.now state.old.place)) }
+    ensures same_state { OnErr result (state.new ≡ state.old) }
+    ensures same_rows { OnErr result (rows.new ≡ rows.old) }
+    ensures within { result ≡ Err StepFault.RowLimit → ⊥ }
+    ensures too_many { (result ≡ Err StepFault.TooManyRows) ↔ IsFull state.old.place rows.old }
+    ensures memory { result ≡ Err StepFault.OutOfMemory → IsEmit state.old.place }
 {
-    let mut items = Vec::new(alloc);
-    items.push(Item::Open)?;
-    for (row, value) in values.iter().enumerate() {
-        push_items(&mut items, row, passes(op, literal, value))?;
+    if let Place::Read { row } = state.place {
+        let level = &plan.levels.as_slice()[0];
+        state.read(row, passes(level, tables, row));
+        Ok(())
+    } else {
+        make_other(alloc, plan, tables, state, rows)
     }
-    Ok(items)
 }
 
-/// Puts the items of the value in this place at the end.
-fn push_items(items: &mut Vec<Item>, row: usize, passed: bool) -> Result<(), OutOfMemory>
-    ensures { OnOk result (items.new.items ≡ items.old.items ++ layout_for row passed) }
+/// Makes the next item where it reads no row.
+#[inline(never)]
+fn make_other(
+    alloc: Global,
+    plan: &Plan,
+    tables: &Tables,
+    state: &mut LevelState,
+    rows: &mut Rows,
+) -> Result<(), StepFault>
+    requires ready { IsReady tables.now plan.now state.old }
+    requires other { IsNoRead state.old.place }
+    ensures ok { OnOk result (state.new ≡ state_after tables.now (only_level plan.now) state.old) }
+    ensures rows { OnOk result
+        (rows.new ≡ rows.old ++ rows_from (next_item tables.now plan.now state.old.place)) }
+    ensures same_state { OnErr result (state.new ≡ state.old) }
+    ensures same_rows { OnErr result (rows.new ≡ rows.old) }
+    ensures within { result ≡ Err StepFault.RowLimit → ⊥ }
+    ensures too_many { (result ≡ Err StepFault.TooManyRows) ↔ IsFull state.old.place rows.old }
+    ensures memory { result ≡ Err StepFault.OutOfMemory → IsEmit state.old.place }
 {
-    items.push(Item::Read { passed })?;
-    if passed {
-        items.push(Item::Emit { row })?;
+    match state.place {
+        Place::Open => {
+            state.open();
+            Ok(())
+        }
+        Place::Read { .. } => unreachable!(),
+        Place::Emit { row } => {
+            let level = &plan.levels.as_slice()[0];
+            keep(alloc, plan.select.as_slice(), tables, level, row, rows)?;
+            state.emitted(row);
+            Ok(())
+        }
     }
-    Ok(())
-}
-
-/// Whether the comparison of a value with the literal is TRUE.
-#[tactic(auto, unfolding(crate::specs::Item::passes))]
-fn passes(op: CompareOp, literal: i64, value: &Value) -> bool
-    requires { CanCompare value.now (Value.Int literal) }
-    ensures { result ≡ passes op literal value.now }
-{
-    compare(op, value.view(), ValueRef::Int(literal)) == Truth::True
 }

@@ -1,13 +1,16 @@
-//! The run of `SELECT c FROM t WHERE c op literal`: the values of one column, an item a step.
+//! The run of a plan: each step makes one item, and the finished run gives the rows.
 //!
-//! Its caller makes the steps, one at a time, and takes the rows from the finished run. How many
-//! steps a run has, and which rows it gives, depends on the values, the comparison and the literal.
+//! A run keeps its place in the plan's tables, what it has counted and the rows that it gives, and never
+//! a list of its items. A step tests one row, and takes memory for a row that it emits alone.
 #![tactic(auto)]
 
+mod chosen;
+mod emit;
 mod item;
+mod level;
+mod pass;
 mod run;
+mod step;
 
-pub use run::{Run, Step};
-
-#[cfg(test)]
-mod tests;
+pub use run::Run;
+pub use step::{Step, StepFault};

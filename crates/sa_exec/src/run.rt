@@ -1,46 +1,55 @@
-ghost use Rattle.std.specs.Prelude.{◌≡◌, ◌+◌, ◌≤◌, ◌↔◌, [], ◌∷◌, ◌++◌, length, All, IfOk, OnOk, OnErr, IsTrue, IsSome, IfSome, IsSomeAnd};
-ghost use Rattle.std.specs.Bool.{OnFalse};
-ghost use Rattle.sa_value.specs.Compare.{CanCompare};
-ghost use Rattle.sa_exec.specs.Item.{rows_of, rows_from, Emits};
-ghost use Rattle.sa_exec.specs.LaidOut.{item_at};
-ghost use Rattle.sa_exec.specs.Progress.{all_items, all_matches, kept_rows, IsFinished, HasNext, EmitsNext};
+ghost use Rattle.std.specs.Prelude.{◌≡◌, ◌+◌, ◌<◌, ◌≤◌, ◌^◌, ◌↔◌, length, true, false, IfOk, OnOk, OnErr, IsTrue};
+ghost use Rattle.sa_table.specs.Sound.{AreSound};
+ghost use Rattle.sa_table.specs.Table.{row_count};
+ghost use Rattle.sa_plan.specs.Lawful.{IsLawful};
+ghost use Rattle.sa_meaning.specs.Items.{items};
+ghost use Rattle.sa_meaning.specs.Progress.{IsFinished, IsRunnable};
+ghost use Rattle.sa_exec.specs.Step.{IsAtLimit, IsTooMany, MayLackMemory};
+ghost use Rattle.sa_exec.specs.inner.Place.{only_level};
 
-use crate::item::{Item, lay_out};
-use sa_value::{CompareOp, OutOfMemory, Row, Rows, Value};
+use crate::item::make_item;
+use crate::level::LevelState;
+use crate::step::{Step, StepFault};
+use arrayvec::ArrayVec;
+use sa_count::Report;
+use sa_meaning::Running;
+use sa_plan::{Plan, SharedPlan};
+use sa_table::{SharedTables, Tables};
+use sa_value::{OutOfMemory, Rows};
 use std::alloc::Global;
 use std::marker::Model;
 
-/// Whether a run has items left after a step.
-#[derive(Clone, Copy, Debug, PartialEq, Eq)]
-pub enum Step {
-    /// Another step can be made.
-    More,
-    /// That was the last item.
-    Finished,
-}
-
-/// A run of `SELECT c FROM t WHERE c op literal` over the values of the column c.
+/// A run of a plan over tables, as far as it has come.
 ///
-/// Its items are to open the table, to read each value, and to emit each value whose comparison
-/// with the literal is TRUE. A step makes one item.
+/// One item of the plan's run is one step. Between two looks into the run it makes at most `quantum`
+/// steps, and `row_limit` steps in all.
 #[derive(Debug, Drop)]
 pub struct Run {
     alloc: Global,
-    op: CompareOp,
-    literal: i64,
-    values: Vec<Value>,
-    items: Vec<Item>,
-    made: usize,
+    statement: u32,
+    plan: SharedPlan,
+    tables: SharedTables,
+    quantum: u32,
+    row_limit: u64,
+    steps: u64,
+    since_looked: u32,
+    failed: bool,
+    level: LevelState,
     rows: Rows,
 }
 
 impl Model for Run {
-    ghost use Rattle.std.specs.Prelude.{◌≡◌, ◌≤◌, length};
-    ghost use Rattle.sa_exec.specs.Progress.{Progress};
+    ghost use Rattle.sa_meaning.specs.Progress.{Progress};
 
     ghost Value = { Progress };
 
-    ghost use Rattle.sa_exec.specs.Run.{progress_of, IsSound};
+    ghost use Rattle.std.specs.Coded.{codes};
+    ghost use Rattle.sa_cond.specs.contracts.cond.Cond as cond;
+    ghost use Rattle.sa_cond.specs.contracts.expr.Expr as expr;
+
+    ghost coded = { Prim.hlevel (codes, cond.the_row.coded, expr.the_row.coded) };
+
+    ghost use Rattle.sa_exec.specs.inner.Sound.{progress_of, IsSound};
 
     ghost view = { progress_of };
 
@@ -48,118 +57,136 @@ impl Model for Run {
 }
 
 impl Run {
-    /// A run of which no item is made yet. The values are numbers or NULL, and it copies them.
+    /// A run of which no item is made yet. It evaluates nothing, and takes no memory for rows.
     pub fn start(
         alloc: Global,
-        values: &[Value],
-        op: CompareOp,
-        literal: i64,
+        statement: u32,
+        plan: SharedPlan,
+        tables: SharedTables,
+        quantum: u32,
+        row_limit: u64,
     ) -> Result<Run, OutOfMemory>
-        requires { All (λ value. CanCompare value (Value.Int literal)) values.now }
-        ensures { IfOk result
-            (λ run. run ≡ record { op = op; literal = literal; values = values.now; steps = 0 }) }
+        requires lawful { IsLawful tables plan }
+        requires runnable { IsRunnable plan }
+        requires least_quantum { 1 ≤ quantum }
+        requires most_quantum { quantum ≤ 64 }
+        requires least_limit { 1 ≤ row_limit }
+        requires most_limit { row_limit ≤ 2 ^ 40 }
+        ensures { IfOk result (λ run. run ≡ record {
+          statement = statement;
+          plan = plan;
+          data_read = tables;
+          quantum = quantum;
+          row_limit = row_limit;
+          steps = 0;
+          since_looked = 0;
+          failed = false;
+        }) }
     {
-        let values = copy_all(alloc, values)?;
-        let items = lay_out(alloc, &values, op, literal)?;
+        let count = count_rows(plan.plan(), tables.tables());
         Ok(Run {
             alloc,
-            op,
-            literal,
-            values,
-            items,
-            made: 0,
+            statement,
+            plan,
+            tables,
+            quantum,
+            row_limit,
+            steps: 0,
+            since_looked: 0,
+            failed: false,
+            level: LevelState::new(count),
             rows: Rows::new(alloc),
         })
     }
 
     /// Makes the next item. Only an emit takes memory, for its row.
     ///
-    /// An error leaves the run as it was, so that the step can be tried again.
-    pub fn step(&mut self) -> Result<Step, OutOfMemory>
-        requires { HasNext self.old }
-        ensures ok { OnOk result (self.new ≡ record self.old { steps = self.old.steps + 1 }) }
+    /// After an error no step may be made any more, but the run still reports the items that it made.
+    pub fn step(&mut self) -> Result<Step, StepFault>
+        requires unfinished { self.old.steps < length (items self.old.plan self.old.data_read) }
+        requires unfailed { self.old.failed ≡ false }
+        requires looked { self.old.since_looked < self.old.quantum }
+        ensures ok { OnOk result (self.new ≡ record self.old {
+          steps = self.old.steps + 1;
+          since_looked = self.old.since_looked + 1;
+        }) }
         ensures last { IfOk result (λ step. (step ≡ Step.Finished) ↔ IsFinished self.new) }
-        ensures more { IfOk result (λ step. (step ≡ Step.More) ↔ HasNext self.new) }
-        ensures err { OnErr result (self.new ≡ self.old) }
-        ensures only_at_emit { OnErr result (EmitsNext self.old) }
+        ensures more { IfOk result (λ step. (step ≡ Step.More)
+            ↔ (self.new.steps < length (items self.new.plan self.new.data_read))) }
+        ensures row_limit { (result ≡ Err StepFault.RowLimit) ↔ IsAtLimit self.old }
+        ensures too_many { (result ≡ Err StepFault.TooManyRows) ↔ IsTooMany self.old }
+        ensures memory { result ≡ Err StepFault.OutOfMemory → MayLackMemory self.old }
+        ensures err { OnErr result (self.new ≡ record self.old { failed = true }) }
     {
-        let item = self.items[self.made];
-        keep(self.alloc, &mut self.rows, &self.values, item)?;
-        self.made += 1;
-        Ok(if self.finished() {
-            Step::Finished
-        } else {
-            Step::More
-        })
+        if self.steps == self.row_limit {
+            self.failed = true;
+            return Err(StepFault::RowLimit);
+        }
+        match make_item(
+            self.alloc,
+            self.plan.plan(),
+            self.tables.tables(),
+            &mut self.level,
+            &mut self.rows,
+        ) {
+            Ok(()) => {
+                self.steps += 1;
+                self.since_looked += 1;
+                Ok(step_of(self.level.is_done()))
+            }
+            Err(fault) => {
+                self.failed = true;
+                Err(fault)
+            }
+        }
+    }
+}
+
+impl Running for Run {
+    ghost progress = { λ run. run };
+
+    fn report(&self) -> Report {
+        let mut tables = ArrayVec::new();
+        tables.push(self.level.counters);
+        Report {
+            statement: self.statement,
+            steps: self.steps,
+            sent: self.rows.len() as u64,
+            tables,
+        }
     }
 
-    /// Whether all items are made.
-    pub fn finished(&self) -> bool
-        ensures finished { IsTrue result ↔ IsFinished self.now }
-        ensures next { OnFalse result (HasNext self.now) }
-    {
-        self.made == self.items.len()
+    fn finished(&self) -> bool {
+        self.level.is_done()
     }
 
-    /// How many items are made.
-    pub fn steps(&self) -> u64
-        ensures made { result ≡ self.now.steps }
-        ensures bound { result ≤ length (all_items self.now) }
-
-        // one for the table, one for each value and one for each match
-        ensures total { IsFinished self.now
-            → result ≡ 1 + length self.now.values + length (all_matches self.now) }
-    {
-        self.made as u64
+    fn looked(&mut self) {
+        self.since_looked = 0;
     }
 
-    /// The rows that the items made so far gave.
-    pub fn kept(&self) -> &Rows
-        ensures { result.now ≡ kept_rows self.now }
-    {
-        &self.rows
-    }
-
-    /// The rows of a finished run, one for each value that passed, in order.
-    pub fn into_rows(self) -> Rows
-        requires { IsFinished self }
-        ensures { result ≡ rows_of self.op self.literal self.values }
-    {
+    fn into_rows(self) -> Rows {
         let Run { rows, .. } = self;
         rows
     }
 }
 
-/// Equal values of their own, in order.
-fn copy_all(alloc: Global, values: &[Value]) -> Result<Vec<Value>, OutOfMemory>
-    ensures { IfOk result (λ copied. copied.items ≡ values.now) }
+/// What a step answers that leaves the plan's table done, or not.
+#[inline(always)]
+fn step_of(done: bool) -> Step
+    ensures finished { (result ≡ Step.Finished) ↔ IsTrue done }
+    ensures more { (result ≡ Step.More) ↔ (IsTrue done → ⊥) }
 {
-    let mut copied = Vec::with_capacity(alloc, values.len())?;
-    for value in values {
-        copied.push(value.copy(alloc)?)?;
-    }
-    Ok(copied)
+    if done { Step::Finished } else { Step::More }
 }
 
-/// Keeps the row of an emit. Other items give no row and take no memory.
-fn keep(alloc: Global, rows: &mut Rows, values: &[Value], item: Item) -> Result<(), OutOfMemory>
-    requires { IsSome (item_at values.now item) }
-    ensures ok { OnOk result
-        (IfSome (item_at values.now item) (λ made. rows.new ≡ rows.old ++ rows_from made)) }
-    ensures err { OnErr result (rows.new ≡ rows.old) }
-    ensures only_at_emit { OnErr result (IsSomeAnd (item_at values.now item) Emits) }
+/// How many rows the plan's only table has.
+fn count_rows(plan: &Plan, tables: &Tables) -> u32
+    requires lawful { IsLawful tables.now plan.now }
+    requires runnable { IsRunnable plan.now }
+    ensures sound { AreSound tables.now }
+    ensures count { result ≡ row_count tables.now (only_level plan.now).table }
 {
-    if let Item::Emit { row } = item {
-        rows.push(row_of(alloc, &values[row])?)?;
-    }
-    Ok(())
-}
-
-/// The row of a copy of this value.
-fn row_of(alloc: Global, value: &Value) -> Result<Row, OutOfMemory>
-    ensures { IfOk result (λ row. row ≡ value.now ∷ []) }
-{
-    let mut row = Row::new(alloc);
-    row.push(value.copy(alloc)?)?;
-    Ok(row)
+    // what their number is told with: that the tables are sound
+    let _tables = tables.len();
+    tables.count(plan.levels.as_slice()[0].table)
 }

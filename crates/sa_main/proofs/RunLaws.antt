@@ -5,7 +5,7 @@ use Rattle.sa_value.specs.declared.value.Value.{Value}
 use Rattle.sa_value.specs.declared.value.Value.TheVariants.{Int}
 use Rattle.sa_value.specs.declared.truth.CompareOp.{CompareOp}
 use Rattle.sa_value.specs.Compare.{CanCompare}
-use Rattle.sa_exec.specs.Item.{rows_of}
+use Rattle.sa_scan.specs.Item.{rows_of}
 
 -- numbers can be compared with a number
 pub numbers_compare : (numbers : List ℤ) (values : List Value) (literal : ℤ) → values ≡ map Int numbers → All (λ value. CanCompare value (Int literal)) values

@@ -3,7 +3,7 @@ use Rattle.std.proofs.Common.{◌≡◌, ◌∷◌, [], ◌++◌, pos, codes, re
 use Rattle.std.specs.Fmt.{digits}
 use Rattle.sa_value.specs.declared.truth.CompareOp.TheVariants.{Ge}
 use Rattle.serde_json.proofs.OnLiterals.{serde_json_on_literals}
-use Rattle.sa_exec.specs.Item.{passes}
+use Rattle.sa_scan.specs.Item.{passes}
 use Rattle.sa_main.specs.Script.{Script}
 use Rattle.sa_main.specs.Journal.{journal_of, line_of, select_text, refusal}
 

@@ -10,7 +10,7 @@ use Rattle.serde_json.specs.Data.{Data, unsigned, null, boolean, number, string,
 use Rattle.serde_json.specs.Find.{of_integer}
 use Rattle.serde_json.specs.View.{items_of}
 use Rattle.serde_json.specs.Written.{compact_text}
-use Rattle.sa_exec.specs.Item.{rows_of}
+use Rattle.sa_scan.specs.Item.{rows_of}
 use Rattle.sa_main.specs.Script.{Script}
 
 -- how a comparison is written

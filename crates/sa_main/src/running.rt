@@ -1,11 +1,11 @@
 ghost use Rattle.std.specs.Prelude.{◌≡◌, All, map, IfOk};
 ghost use Rattle.sa_value.specs.Compare.{CanCompare};
-ghost use Rattle.sa_exec.specs.Item.{rows_of};
+ghost use Rattle.sa_scan.specs.Item.{rows_of};
 ghost use Rattle.sa_main.specs.Journal.{answer_of};
 ghost use Rattle.sa_main.specs.Meaning.{script_at};
 
 use crate::script::Script;
-use sa_exec::{Run, Step};
+use sa_scan::{Run, Step};
 use sa_value::{CompareOp, OutOfMemory, Rows, Value};
 use std::alloc::Global;
 

@@ -1,42 +1,58 @@
 -- What a run has counted after so many items.
 -- Source of the names: MariaDB Knowledge Base, "ANALYZE FORMAT=JSON".
-use Rattle.std.specs.Prelude.{ℕ, Bool, true, false, List, [], ◌∷◌, take, count_by}
-use Rattle.sa_value.specs.declared.value.Value.{Value}
-use Rattle.sa_plan.specs.declared.plan.Plan.{Plan}
+use Rattle.std.specs.Prelude.{ℕ, ◌==◌, ◌&&◌, Bool, true, false, List, map, length, take, count_by}
+use Rattle.std.specs.List.{range_with_len}
 use Rattle.sa_count.specs.declared.counters.Counters.{Counters}
 use Rattle.sa_count.specs.declared.report.Report.{Report}
-use Rattle.sa_meaning.specs.Item.{Item, open_table, read_row, emit_row, items}
+use Rattle.sa_plan.specs.declared.plan.Plan.{Plan}
+use Rattle.sa_meaning.specs.Data.{RunData}
+use Rattle.sa_meaning.specs.Items.{RunItem, open_level, read_row, emit_row, items}
 
--- the item opens the table
-abbrev pub is_open : Item → Bool
-is_open open_table = true
-is_open (read_row passed) = false
-is_open (emit_row row) = false
+-- the item opens this level
+abbrev pub is_open : ℕ → RunItem → Bool
+is_open level (open_level other) = other == level
+is_open level (read_row other passed) = false
+is_open level (emit_row row) = false
 
--- the item reads a row
-abbrev pub is_read : Item → Bool
-is_read open_table = false
-is_read (read_row passed) = true
-is_read (emit_row row) = false
+-- the item reads a row of this level
+abbrev pub is_read : ℕ → RunItem → Bool
+is_read level (open_level other) = false
+is_read level (read_row other passed) = other == level
+is_read level (emit_row row) = false
 
--- the item reads a row that passed
-abbrev pub is_pass : Item → Bool
-is_pass open_table = false
-is_pass (read_row passed) = passed
-is_pass (emit_row row) = false
+-- the item reads a row of this level that passed
+abbrev pub is_pass : ℕ → RunItem → Bool
+is_pass level (open_level other) = false
+is_pass level (read_row other passed) = other == level && passed
+is_pass level (emit_row row) = false
 
 -- the item emits a row
-abbrev pub is_emit : Item → Bool
-is_emit open_table = false
-is_emit (read_row passed) = false
+abbrev pub is_emit : RunItem → Bool
+is_emit (open_level level) = false
+is_emit (read_row level passed) = false
 is_emit (emit_row row) = true
 
--- how often a table was opened, and how many of its rows were read and passed
-abbrev pub counters_of : List Item → Counters
-counters_of made = record { loops = count_by is_open made; rows = count_by is_read made; passed = count_by is_pass made }
+-- how often a level was opened, and how many of its rows were read and passed
+abbrev pub counters_of : List RunItem → ℕ → Counters
+counters_of made level = record {
+  loops = count_by (is_open level) made;
+  rows = count_by (is_read level) made;
+  passed = count_by (is_pass level) made;
+}
+
+-- the counters of a plan's levels after so many items, in their order
+unfoldable pub level_counters : Plan → RunData → ℕ → List Counters
+level_counters plan tables steps = map (counters_of (take steps (items plan tables))) (range_with_len 0 (length plan.levels))
+
+-- how many rows were given out after so many items
+unfoldable pub sent_count : Plan → RunData → ℕ → ℕ
+sent_count plan tables steps = count_by is_emit (take steps (items plan tables))
 
 -- The report of a run of this statement after so many items.
-abbrev pub counts : ℕ → Plan → List Value → ℕ → Report
-counts statement plan values steps =
-    let made = take steps (items plan values) in
-    record { statement = statement; steps = steps; sent = count_by is_emit made; tables = record { items = counters_of made ∷ [] } }
+abbrev pub counts : ℕ → Plan → RunData → ℕ → Report
+counts statement plan tables steps = record {
+  statement = statement;
+  steps = steps;
+  sent = sent_count plan tables steps;
+  tables = record { items = level_counters plan tables steps };
+}

@@ -1,4 +1,5 @@
-pub mod Item
-pub mod Counts
+pub mod Data
+pub mod Items
 pub mod Output
+pub mod Counts
 pub mod Progress

@@ -1,14 +1,14 @@
 -- What a run is of, and how far it has come.
-use Rattle.std.specs.Prelude.{◌≡◌, ℕ, Bool, List, length}
-use Rattle.sa_value.specs.declared.value.Value.{Value}
+use Rattle.std.specs.Prelude.{◌≡◌, ℕ, Bool, length, slice_get, IsSomeAnd, ⊤}
 use Rattle.sa_plan.specs.declared.plan.Plan.{Plan}
-use Rattle.sa_meaning.specs.Item.{items}
+use Rattle.sa_meaning.specs.Data.{RunData}
+use Rattle.sa_meaning.specs.Items.{RunItem, open_level, read_row, emit_row, items}
 
--- A run of this statement makes the items of its plan over these values.
+-- A run of this statement makes the items of its plan over these data.
 pub record Progress : Type 0 where
   pub statement : ℕ
   pub plan : Plan
-  pub values : List Value
+  pub data_read : RunData
   -- how many steps it makes at most without being looked into
   pub quantum : ℕ
   -- how many steps it makes at most
@@ -22,4 +22,18 @@ pub record Progress : Type 0 where
 
 -- All items are made.
 abbrev pub IsFinished : Progress → Type 0
-IsFinished run = run.steps ≡ length (items run.plan run.values)
+IsFinished run = run.steps ≡ length (items run.plan run.data_read)
+
+-- An emit, which is the only item that takes memory.
+abbrev pub Emits : RunItem → Type 0
+Emits (open_level level) = ⊥
+Emits (read_row level passed) = ⊥
+Emits (emit_row row) = ⊤
+
+-- The item behind the first so many is an emit.
+unfoldable pub EmitsAt : Plan → RunData → ℕ → Type 0
+EmitsAt plan tables steps = IsSomeAnd (slice_get (items plan tables) steps) Emits
+
+-- The plans that can be run today: those of one level.
+abbrev pub IsRunnable : Plan → Type 0
+IsRunnable plan = length plan.levels ≡ 1

@@ -1,5 +1,5 @@
 ghost use Rattle.std.specs.Prelude.{◌≡◌, ◌≤◌, ◌↔◌, length, IsTrue};
-ghost use Rattle.sa_meaning.specs.Item.{items};
+ghost use Rattle.sa_meaning.specs.Items.{items};
 ghost use Rattle.sa_meaning.specs.Counts.{counts};
 ghost use Rattle.sa_meaning.specs.Output.{output};
 ghost use Rattle.sa_meaning.specs.Progress.{Progress, IsFinished};
@@ -14,8 +14,8 @@ pub trait Running: Drop {
 
     /// What the run has counted, for other sessions to see.
     fn report(&self) -> Report
-        ensures counts { let run = progress self.now in result ≡ counts run.statement run.plan run.values run.steps }
-        ensures within { let run = progress self.now in run.steps ≤ length (items run.plan run.values) };
+        ensures counts { let run = progress self.now in result ≡ counts run.statement run.plan run.data_read run.steps }
+        ensures within { let run = progress self.now in run.steps ≤ length (items run.plan run.data_read) };
 
     /// Whether all items of the plan are made.
     fn finished(&self) -> bool
@@ -28,5 +28,5 @@ pub trait Running: Drop {
     /// The rows of a finished run, in order.
     fn into_rows(self) -> Rows
         requires { IsFinished (progress self) }
-        ensures { let run = progress self in result ≡ output run.plan run.values };
+        ensures { let run = progress self in result ≡ output run.plan run.data_read };
 }

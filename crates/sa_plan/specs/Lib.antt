@@ -1,1 +1,4 @@
-pub mod Plan
+pub mod Answer
+pub mod Chosen
+pub mod Scan
+pub mod Lawful

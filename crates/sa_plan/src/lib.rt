@@ -6,7 +6,9 @@
 mod plan;
 mod prepared;
 mod preparer;
+mod shared;
 
-pub use plan::{Plan, Planned};
+pub use plan::{Access, Level, Levels, Plan, Planned};
 pub use prepared::{Prepared, Work};
 pub use preparer::Preparer;
+pub use shared::SharedPlan;

@@ -1,26 +1,50 @@
-use sa_value::{CompareOp, Text};
-use std::sync::Arc;
+use crate::shared::SharedPlan;
+use sa_cond::Conds;
+use sa_query::Items;
+use sa_value::{Sequence, Text};
 
-/// How a `SELECT column FROM table WHERE column op literal` is run: the table is read by a scan, in
-/// the order of its rows, and each row is given out whose value compares TRUE with the literal.
+/// How a SELECT is run: the tables one inside the other, the first outermost, and what is given out
+/// for each choice of their rows that passes.
 ///
-/// MariaDB's Knowledge Base calls this access ALL, under "EXPLAIN". The cost is this project's own.
+/// MariaDB's Knowledge Base shows such a plan under "EXPLAIN FORMAT=JSON". The costs are this
+/// project's own.
 #[derive(Debug, Drop)]
 pub struct Plan {
-    /// The name of the table.
-    pub table: Text,
-    /// The name of its column.
-    pub column: Text,
-    pub op: CompareOp,
-    pub literal: i64,
-    /// How many rows the table has.
-    pub rows: u64,
-    /// What the scan costs: 20, and 5 for each row.
+    pub levels: Levels,
+    pub select: Items,
     pub cost: u128,
+}
+
+/// A table of a plan.
+#[derive(Debug, Drop)]
+pub struct Level {
+    /// The table's position in FROM, counted from 0, by which expressions name it.
+    pub position: u32,
+    /// The table's number.
+    pub table: u32,
+    /// The name by which the statement calls it.
+    pub alias: Text,
+    pub access: Access,
+    /// A row passes where all of them are TRUE. They name this table and those of the levels before.
+    pub conditions: Conds,
+    /// How many rows the access is reckoned to give each time.
+    pub estimate: u64,
+}
+
+/// The tables of a plan, the outermost first.
+pub type Levels = Sequence<Level>;
+
+/// Which rows of its table a level reads, and in which order.
+///
+/// Source of the names: MariaDB Knowledge Base, "EXPLAIN", its column `type`.
+#[derive(Clone, Copy, Debug, PartialEq, Eq)]
+pub enum Access {
+    /// All rows, by their numbers.
+    All,
 }
 
 /// What planning a query gives.
 #[derive(Debug, Drop)]
 pub struct Planned {
-    pub plan: Arc<Plan>,
+    pub plan: SharedPlan,
 }

@@ -1,15 +1,10 @@
-//! A script: the table that it sets up, its sessions with their statements, and how they take turns.
+//! A script: the tables that it sets up, its sessions with their statements, and how they take turns.
 //!
-//! The reader of scripts makes one, and the runner and the definition of legal journals speak of it.
+//! The reader of scripts makes one, or tells the first fault of the text at its byte.
 #![tactic(auto)]
 
-mod schedule;
+mod fault;
 mod script;
-mod session;
 
-pub use schedule::Schedule;
-pub use script::Script;
-pub use session::{SessionScript, SessionScripts};
-
-#[cfg(test)]
-mod tests;
+pub use fault::{ScriptFault, ScriptKind};
+pub use script::{Schedule, Script, SessionScript, SessionScripts};

@@ -1,16 +1,10 @@
-use crate::schedule::Schedule;
-use crate::session::SessionScripts;
-use sa_value::{Text, Values};
+use sa_table::Tables;
+use sa_value::{Sequence, Text};
 
 /// What a script says.
 #[derive(Debug, Drop)]
 pub struct Script {
-    /// The name of its table.
-    pub table: Text,
-    /// The name of the table's column.
-    pub column: Text,
-    /// The values of the column, in the order of the rows.
-    pub values: Values,
+    pub tables: Tables,
     /// The sessions, numbered from 1 on.
     pub sessions: SessionScripts,
     /// How many row steps a turn makes at most: 1 to 64.
@@ -20,3 +14,12 @@ pub struct Script {
     /// Which sessions take the first turns.
     pub schedule: Schedule,
 }
+
+/// The source texts of one session's statements, which are read when they are run.
+pub type SessionScript = Sequence<Text>;
+
+/// The sessions of a script.
+pub type SessionScripts = Sequence<SessionScript>;
+
+/// The numbers of the sessions that take the first turns, one after another.
+pub type Schedule = Sequence<u32>;

@@ -25,6 +25,3 @@ pub use source::{Failed, Source};
 pub use std_sink::StdSink;
 pub use std_source::StdSource;
 pub use transfer::{ReadStop, read_up_to, write_all};
-
-#[cfg(test)]
-mod tests;

@@ -4,7 +4,7 @@ use Rattle.sa_desk.specs.declared.entry.Entry.{Entry}
 use Rattle.sa_desk.specs.declared.entry.Event.TheVariants.{End}
 use Rattle.sa_desk.specs.declared.outcome.Outcome.{Outcome}
 use Rattle.sa_desk.specs.declared.outcome.Outcome.TheVariants.{Interrupted}
-use Rattle.sa_desk.specs.State.{Terms, Statement, Phase, plain, planned, State}
+use Rattle.sa_desk.specs.State.{Terms, Statement, Phase, unplanned, planned, State}
 use Rattle.sa_desk.specs.Comes.{ComesIn, Ends}
 use Rattle.sa_desk.specs.Runs.{state_of, IsDeskRun}
 use Rattle.sa_desk.specs.law.Interrupted.{EndsAsKilled}
@@ -19,7 +19,7 @@ ended terms before statement entry number outcome ends tells =
 
 ended_in : (terms : Terms) (before : List Entry) (state : State) (entry : Entry) (number : ℕ) (outcome : Outcome) (steps : ℕ) (phase : Phase)
     → ComesIn terms state entry phase (End number outcome steps) → TellsIn terms before phase → EndsAsKilled terms before number outcome
-ended_in terms before state entry number outcome steps (plain statement) comes tells = ended terms before statement entry number outcome comes.0 tells
+ended_in terms before state entry number outcome steps (unplanned statement) comes tells = ended terms before statement entry number outcome comes.0 tells
 ended_in terms before state entry number outcome steps (planned statement execution) comes tells =
     ended terms before statement entry number outcome comes.0 tells.statement_is
 ended_in terms before state entry number outcome steps phase comes tells = absurd comes

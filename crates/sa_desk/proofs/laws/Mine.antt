@@ -1,5 +1,5 @@
 -- The numbers of those elements of a list that have a session's key.
-use Rattle.std.proofs.Common.{◌≡◌, ◌≢◌, ℕ, ◌==◌, not, if◌then◌else◌, List, [], ◌∷◌, ◌++◌, filter, All, Any, inl, inr, refl, sym, subst, ap, ◌∙◌, arith}
+use Rattle.std.proofs.Common.{◌≡◌, ◌≢◌, ℕ, suc, ◌==◌, not, if◌then◌else◌, List, [], ◌∷◌, ◌++◌, filter, All, Any, inl, inr, refl, sym, subst, ap, ◌∙◌, arith}
 use Rattle.std.proofs.lemmas.Bool.{cases_eq}
 use Rattle.std.proofs.lemmas.Bool.Decides.{nat_tests}
 use Rattle.std.proofs.lemmas.List.Elements.{All-head, All-tail, All-cons, All-nil}
@@ -71,4 +71,29 @@ module _ {X : Type 0} (key number : X → ℕ) where
               | inl here ↦ absurd (other here.0)
               | inr later ↦ mine-has P session n xs (subst (All P) (mine-other session x xs other) all) later
             ]
+      ]
+
+  later_there : (session n : ℕ) (x : X) (xs : List X) → Any (λ x. (key x ≡ session) × (number x ≡ n)) xs → Any (λ x. (key x ≡ session) × (number x ≡ n)) (x ∷ xs)
+  later_there session n x xs (k, y, within, at, holds) = (suc k, y, omega arith, at, holds)
+
+  -- One that is among their numbers is of one that is there, and what holds of all their numbers holds of each that has the key.
+  pub mine-there : (session n : ℕ) (rest : List ℕ) (xs : List X) → mine session xs ≡ n ∷ rest → Any (λ x. (key x ≡ session) × (number x ≡ n)) xs
+  mine-there session n rest [] some = absurd (let none : [] ≡ n ∷ rest = some in cc)
+  mine-there session n rest (x ∷ xs) some =
+      elim (cases_eq (key x) session) [
+        | inl same ↦
+            let both : number x ∷ mine session xs ≡ n ∷ rest = sym (mine-own session x xs same) ∙ some in
+            let first : number x ≡ n = cc in (0, x, omega arith, refl, (same, first))
+        | inr other ↦ later_there session n x xs (mine-there session n rest xs (sym (mine-other session x xs other) ∙ some))
+      ]
+
+  pub mine-each : (P : ℕ → Type 0) (session : ℕ) (xs : List X) → All P (mine session xs) → All (λ x. key x ≡ session → P (number x)) xs
+  mine-each P session [] all = All-nil (λ x. key x ≡ session → P (number x))
+  mine-each P session (x ∷ xs) all =
+      elim (cases_eq (key x) session) [
+        | inl same ↦
+            let whole : All P (number x ∷ mine session xs) = subst (All P) (mine-own session x xs same) all in
+            All-cons (λ x. key x ≡ session → P (number x)) x xs (λ own. All-head P (number x) (mine session xs) whole) (mine-each P session xs (All-tail P (number x) (mine session xs) whole))
+        | inr other ↦
+            All-cons (λ x. key x ≡ session → P (number x)) x xs (λ own. absurd (other own)) (mine-each P session xs (subst (All P) (mine-other session x xs other) all))
       ]

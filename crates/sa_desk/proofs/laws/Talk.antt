@@ -1,10 +1,9 @@
 -- A session's requests at a desk come one after another.
-use Rattle.std.proofs.Common.{◌≡◌, ◌≢◌, ℕ, ◌==◌, Bool, false, if◌then◌else◌, List, [], ◌∷◌, ◌++◌, append-nil, Option, Some, None, option_map, All, inl, inr, refl, sym, subst, ap, ◌∙◌}
+use Rattle.std.proofs.Common.{◌≡◌, ◌≢◌, ℕ, ◌==◌, Bool, false, if◌then◌else◌, List, [], ◌∷◌, ◌++◌, append-nil, Option, Some, None, All, inl, inr, refl, sym, subst, ap, ◌∙◌}
 use Rattle.std.proofs.lemmas.Bool.Decides.{eqb_tells}
 use Rattle.std.proofs.lemmas.List.Elements.{All-cons, All-nil}
-use Rattle.std.specs.Arc.{arc_value}
-use Rattle.sa_value.specs.declared.value.Value.{Value}
 use Rattle.sa_plan.specs.declared.plan.Plan.{Plan}
+use Rattle.sa_meaning.specs.Data.{RunData}
 use Rattle.sa_ast.specs.declared.kind.KillKind.{KillKind}
 use Rattle.sa_count.specs.declared.report.Report.{Report}
 use Rattle.sa_desk.specs.declared.entry.Entry.{Entry}
@@ -12,7 +11,7 @@ use Rattle.sa_desk.specs.declared.entry.Event.{Event}
 use Rattle.sa_desk.specs.declared.entry.Event.TheVariants.{Begin, Queued, Refused, Served, Taken, Spent, Withdrawn, KillSent, Waited, WaitSpent, End, Gone, Close}
 use Rattle.sa_desk.specs.declared.request.Request.{Request}
 use Rattle.sa_desk.specs.declared.request.Reply.{Reply}
-use Rattle.sa_desk.specs.State.{Terms, Statement, Execution, Phase, idle, plain, planned, serving, State, start, queue_of}
+use Rattle.sa_desk.specs.State.{Terms, Statement, Execution, Phase, idle, unplanned, planned, serving, State, start, queue_of}
 use Rattle.sa_desk.specs.Comes.{ComesIn, Comes, IsQueued, IsServed, ServesFirst}
 use Rattle.sa_desk.specs.After.{after_event, after, begun, served, without, untaken}
 use Rattle.sa_desk.specs.Runs.{Runs, IsDeskRun}
@@ -55,10 +54,17 @@ pub record Stands (session : ℕ) (standing : Standing) (queue : List Request) (
 abbrev pub Leads : Standing → Word → Standing → Type 0
 Leads standing word next = (rest : List Word) → IsTalk next rest → IsTalk standing (word ∷ rest)
 
+-- the standing after a word
+abbrev pub led_to : Word → Standing
+led_to (asks request) = waiting request
+led_to (answers request) = answered request
+led_to (takes request) = nothing_open
+led_to (leaves request) = nothing_open
+
 -- The session's standing after an entry that says this, or nothing.
 abbrev pub Led : ℕ → Standing → Option Word → List Request → List Reply → Type 0
 Led session standing None queue replies = Stands session standing queue replies
-Led session standing (Some word) queue replies = (next : Standing) × Leads standing word next × Stands session next queue replies
+Led session standing (Some word) queue replies = Leads standing word (led_to word) × Stands session (led_to word) queue replies
 
 -- An entry that says the word where its actor is the session, and else nothing.
 Led-if : (session actor : ℕ) (standing : Standing) (word : Word) (queue : List Request) (replies : List Reply)
@@ -85,7 +91,6 @@ asks_own : (session : ℕ) (standing : Standing) (queue : List Request) (replies
     → request.asker ≡ session → asked_by session queue ≡ [] → answered_to session replies ≡ [] → Stands session standing queue replies
     → Led session standing (Some (asks request.request)) (queue ++ request ∷ []) replies
 asks_own session nothing_open queue replies request own none unanswered stands = (
-  waiting request.request,
   (λ rest talk. talk),
   record {
     waits = mine-append asker_of number_of session queue (request ∷ []) ∙ ap (λ ns. ns ++ asked_by session (request ∷ [])) none
@@ -117,13 +122,13 @@ answers_own : (session : ℕ) (standing : Standing) (first : Request) (rest : Li
 answers_own session nothing_open first rest replies reply to number own stands =
     absurd (some_none first.request (asked_by session rest) (sym (mine-own asker_of number_of session first rest own) ∙ stands.waits))
 answers_own session (waiting n) first rest replies reply to number own stands =
-    let same : first.request ∷ asked_by session rest ≡ n ∷ [] = sym (mine-own asker_of number_of session first rest own) ∙ stands.waits in (
-      answered n,
-      (λ more talk. (same_first first.request n (asked_by session rest) [] same, talk)),
+    let same : first.request ∷ asked_by session rest ≡ n ∷ [] = sym (mine-own asker_of number_of session first rest own) ∙ stands.waits in
+    let number_is : first.request ≡ n = same_first first.request n (asked_by session rest) [] same in (
+      (λ more talk. (number_is, subst (λ m. IsTalk (answered m) more) number_is talk)),
       record {
         waits = same_rest first.request n (asked_by session rest) [] same;
         replied = mine-append replied_to number_in session replies (reply ∷ []) ∙ ap (λ ns. ns ++ answered_to session (reply ∷ [])) stands.replied
-            ∙ mine-own replied_to number_in session reply [] (to ∙ own) ∙ ap (λ number. number ∷ []) (number ∙ same_first first.request n (asked_by session rest) [] same);
+            ∙ mine-own replied_to number_in session reply [] (to ∙ own) ∙ ap (λ number. number ∷ []) number;
       },
     )
 answers_own session (answered n) first rest replies reply to number own stands =
@@ -152,7 +157,7 @@ takes_own session number (waiting n) queue replies there stands =
 takes_own session number (answered n) queue replies there stands =
     let same : number ≡ n = mine-has replied_to number_in (λ m. m ≡ n) session number replies
     (subst (All (λ m. m ≡ n)) (sym stands.replied) (All-cons (λ m. m ≡ n) n [] refl (All-nil (λ m. m ≡ n)))) there in
-    (nothing_open, (λ more talk. (same, talk)), record { waits = stands.waits; replied = mine-gone replied_to number_in session replies })
+    ((λ more talk. (same, talk)), record { waits = stands.waits; replied = mine-gone replied_to number_in session replies })
 
 on_takes : (session actor number : ℕ) (standing : Standing) (queue : List Request) (replies : List Reply)
     → IsServed actor number replies → Stands session standing queue replies
@@ -172,7 +177,7 @@ leaves_own session number nothing_open queue replies there stands =
 leaves_own session number (waiting n) queue replies there stands =
     let same : number ≡ n = mine-has asker_of number_of (λ m. m ≡ n) session number queue
     (subst (All (λ m. m ≡ n)) (sym stands.waits) (All-cons (λ m. m ≡ n) n [] refl (All-nil (λ m. m ≡ n)))) there in
-    (nothing_open, (λ more talk. (same, talk)), record { waits = mine-gone asker_of number_of session queue; replied = stands.replied })
+    ((λ more talk. (same, talk)), record { waits = mine-gone asker_of number_of session queue; replied = stands.replied })
 leaves_own session number (answered n) queue replies there stands =
     absurd (mine-has asker_of number_of (λ n. ⊥) session number queue (subst (All (λ n. ⊥)) (sym stands.waits) (All-nil (λ (n : ℕ). ⊥))) there)
 
@@ -246,15 +251,15 @@ module _ (terms : Terms) (session : ℕ) (standing : Standing) (doomed : Bool) (
   on_wait_spent (serving statement execution shown at) number steps turns comes stands = absurd comes
   on_wait_spent phase number steps turns comes stands = stands
 
-  begun_empty : (statement : Statement) (plan : Option Plan) (values : Option (List Value)) → queue_of (begun statement plan values) ≡ []
-  begun_empty statement (Some plan) (Some values) = refl
-  begun_empty statement plan values = refl
+  begun_empty : (statement : Statement) (plan : Option Plan) (tables : Option RunData) → queue_of (begun statement plan tables) ≡ []
+  begun_empty statement (Some plan) (Some tables) = refl
+  begun_empty statement plan tables = refl
 
   led_after : (phase : Phase) (event : Event) → Goal phase event
-  led_after idle (Begin number text version plan values) comes stands =
+  led_after idle (Begin number text version plan tables) comes stands =
       subst (λ waits. Stands session standing waits replies)
-      (sym (begun_empty (record { number = number; begin = seq; turn = turn; killed = false }) (option_map arc_value plan) (option_map arc_value values))) stands
-  led_after phase (Begin number text version plan values) comes stands = absurd comes
+      (sym (begun_empty (record { number = number; begin = seq; turn = turn; killed = false }) plan tables)) stands
+  led_after phase (Begin number text version plan tables) comes stands = absurd comes
   led_after (planned statement execution) (Queued number kind at budget) comes stands =
       on_asks session standing execution.queue replies (record { asker = actor; request = number; at = at }) comes.0 stands
   led_after phase (Queued number kind at budget) comes stands = absurd comes
@@ -266,7 +271,7 @@ module _ (terms : Terms) (session : ℕ) (standing : Standing) (doomed : Bool) (
   led_after phase (KillSent number kind) comes stands = on_kill phase number kind comes stands
   led_after phase (Waited number steps) comes stands = on_waited phase number steps comes stands
   led_after phase (WaitSpent number steps turns) comes stands = on_wait_spent phase number steps turns comes stands
-  led_after (plain statement) (End number outcome steps) comes stands = stands
+  led_after (unplanned statement) (End number outcome steps) comes stands = stands
   led_after (planned statement execution) (End number outcome steps) comes stands =
       subst (λ waits. Stands session standing waits replies) comes.1.served stands
   led_after phase (End number outcome steps) comes stands = absurd comes
@@ -288,7 +293,7 @@ IsTalk-more : (session : ℕ) (standing : Standing) (entry : Entry) (others : Li
     → word_by session entry.actor entry.event ≡ word → Led session standing word queue replies
     → ((next : Standing) → Stands session next queue replies → IsTalk next (words session others)) → IsTalk standing (words session (entry ∷ others))
 IsTalk-more session standing entry others None queue replies is led talks = rw is (talks standing led)
-IsTalk-more session standing entry others (Some word) queue replies is led talks = rw is (led.1 (words session others) (talks led.0 led.2))
+IsTalk-more session standing entry others (Some word) queue replies is led talks = rw is (led.0 (words session others) (talks (led_to word) led.1))
 
 pub IsTalk-run : (terms : Terms) (session : ℕ) (standing : Standing) (state : State) (journal : List Entry) → Runs terms state journal → StandsIn session standing state
     → IsTalk standing (words session journal)
@@ -311,7 +316,7 @@ AllStand state = AllStandIn (queue_of state.phase) state.replies
 stands_next : (session : ℕ) (standing : Standing) (word : Option Word) (queue : List Request) (replies : List Reply) → Led session standing word queue replies
     → (next : Standing) × Stands session next queue replies
 stands_next session standing None queue replies led = (standing, led)
-stands_next session standing (Some word) queue replies led = (led.0, led.2)
+stands_next session standing (Some word) queue replies led = (led_to word, led.1)
 
 pub AllStand-start : AllStand start
 AllStand-start session = (nothing_open, record { waits = refl; replied = refl })

@@ -8,12 +8,12 @@ use Rattle.sa_desk.specs.declared.phase.Phase as held
 use Rattle.sa_desk.specs.declared.request.Request.{Request}
 use Rattle.sa_desk.specs.declared.request.Reply.{Reply}
 use Rattle.sa_desk.specs.declared.stamp.Stamp.{Stamp}
-use Rattle.sa_desk.specs.State.{Phase, idle, plain, planned, serving, closed, State, HasNone}
+use Rattle.sa_desk.specs.State.{Phase, idle, unplanned, planned, serving, closed, State, HasNone}
 use Rattle.sa_desk.specs.Comes.{Comes}
 use Rattle.sa_desk.specs.After.{after}
 use Rattle.sa_desk.specs.Contents.{Contents, state, entry_by}
-use Rattle.sa_desk.specs.Desk.{contents_of, outline, IsReady}
-use Rattle.sa_desk.specs.Parts.{answer_in, put_last}
+use Rattle.sa_desk.specs.inner.Desk.{contents_of, held_phase, IsReady}
+use Rattle.sa_desk.specs.inner.Parts.{answer_in, put_last}
 use Rattle.sa_desk.specs.call.Ask.{ask_answer, ask_event, ask_entries, MayAsk}
 use Rattle.sa_desk.proofs.Counted.{unspent-reset}
 use Rattle.sa_desk.proofs.Grown.{IsJournal, IsJournal-push}
@@ -29,7 +29,7 @@ pub ask-comes : (desk : Contents) (stamp : Stamp) (now : Phase) (doomed : Bool) 
     Keeps desk.terms.quantum phase held_doomed at queue held_replies state → HasNone stamp.actor now replies → budget ≡ desk.terms.turns
     → Comes desk.terms state (entry_of desk stamp state number kind at budget)
 ask-comes desk stamp idle doomed replies number kind at budget phase held_doomed queue held_replies keeps none budget_is = tt
-ask-comes desk stamp (plain statement) doomed replies number kind at budget phase held_doomed queue held_replies keeps none budget_is = tt
+ask-comes desk stamp (unplanned statement) doomed replies number kind at budget phase held_doomed queue held_replies keeps none budget_is = tt
 ask-comes desk stamp (planned statement execution) doomed replies number kind at budget phase held_doomed queue held_replies keeps none budget_is =
     (none, keeps.lawful, budget_is)
 ask-comes desk stamp (serving statement execution steps turn) doomed replies number kind at budget phase held_doomed queue held_replies keeps none budget_is =
@@ -43,7 +43,7 @@ pub ask-keeps : (desk : Contents) (stamp : Stamp) (now : Phase) (doomed : Bool) 
     → Keeps desk.terms.quantum phase held_doomed at (put_last (answer_in phase) (record { asker = stamp.actor; request = number; at = at }) queue) held_replies (after desk.terms state (entry_of desk stamp state number kind at budget))
 ask-keeps desk stamp idle doomed replies number kind at budget phase held_doomed queue held_replies keeps =
     record { settled = keeps.settled; lawful = keeps.lawful; phase_is = keeps.phase_is; doomed_is = keeps.doomed_is; queue_is = rw keeps.phase_is keeps.queue_is; replies_is = keeps.replies_is }
-ask-keeps desk stamp (plain statement) doomed replies number kind at budget phase held_doomed queue held_replies keeps =
+ask-keeps desk stamp (unplanned statement) doomed replies number kind at budget phase held_doomed queue held_replies keeps =
     record { settled = keeps.settled; lawful = keeps.lawful; phase_is = keeps.phase_is; doomed_is = keeps.doomed_is; queue_is = rw keeps.phase_is keeps.queue_is; replies_is = keeps.replies_is }
 ask-keeps desk stamp (planned statement execution) doomed replies number kind at budget phase held_doomed queue held_replies keeps =
     record {
@@ -94,9 +94,9 @@ ask-ready old new stamp number kind budget ready may journal capacity queue poll
     })
 
 -- What the desk keeps of a phase tells how a request is answered.
-pub answer_in-outline : (now : Phase) → answer_in (outline now) ≡ ask_answer now
-answer_in-outline idle = refl
-answer_in-outline (plain statement) = refl
-answer_in-outline (planned statement execution) = refl
-answer_in-outline (serving statement execution steps turn) = refl
-answer_in-outline closed = refl
+pub answer_in-held_phase : (now : Phase) → answer_in (held_phase now) ≡ ask_answer now
+answer_in-held_phase idle = refl
+answer_in-held_phase (unplanned statement) = refl
+answer_in-held_phase (planned statement execution) = refl
+answer_in-held_phase (serving statement execution steps turn) = refl
+answer_in-held_phase closed = refl

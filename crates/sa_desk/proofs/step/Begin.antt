@@ -1,11 +1,11 @@
 -- What the begin of a statement leaves.
-use Rattle.std.proofs.Common.{◌≡◌, ℕ, ◌↔◌, Bool, true, false, List, [], ◌∷◌, ◌++◌, Option, Some, None, IsSome, is_some, option_map, inl, refl, sym, ◌∙◌, vec_capacity, arith}
+use Rattle.std.proofs.Common.{◌≡◌, ℕ, ◌↔◌, Bool, true, false, List, [], ◌∷◌, ◌++◌, Option, Some, None, IsSome, is_some, inl, refl, sym, ◌∙◌, vec_capacity, arith}
 use Rattle.sa_desk.specs.declared.desk.Desk.TheInside.{Inside}
 use Rattle.sa_desk.specs.declared.entry.Event.{Event}
 use Rattle.sa_desk.specs.declared.entry.Event.TheVariants.{Gone}
 use Rattle.sa_desk.specs.declared.stamp.Stamp.{Stamp}
-use Rattle.sa_value.specs.declared.value.Value.{Value}
 use Rattle.sa_plan.specs.declared.plan.Plan.{Plan}
+use Rattle.sa_meaning.specs.Data.{RunData}
 use Rattle.sa_desk.specs.declared.phase.Phase as held
 use Rattle.sa_desk.specs.declared.request.Request.{Request}
 use Rattle.sa_desk.specs.declared.request.Reply.{Reply}
@@ -13,25 +13,18 @@ use Rattle.sa_desk.specs.State.{Statement, idle}
 use Rattle.sa_desk.specs.Comes.{Comes}
 use Rattle.sa_desk.specs.After.{begun, after}
 use Rattle.sa_desk.specs.Contents.{state, phase, IsCaller, IsOwner, HasRoom, entry_by}
-use Rattle.sa_desk.specs.Desk.{contents_of, kept_of, IsReady}
-use Rattle.sa_desk.specs.Parts.{begun_with}
+use Rattle.sa_desk.specs.inner.Desk.{contents_of, kept_of, IsReady}
+use Rattle.sa_desk.specs.inner.Parts.{begun_with}
 use Rattle.sa_desk.proofs.Keeps.{Keeps, FieldsKeep, FieldsKeep-ready, AreCounts-ready, IsReady-push, at_idle, when_idle}
 
--- A plan and values that are given together are so whatever is made of them.
-pub given_together : {A B C D : Type 0} (f : A → C) (g : B → D) (plan : Option A) (values : Option B) → (IsSome (option_map f plan) ↔ IsSome (option_map g values)) → IsSome plan ↔ IsSome values
-given_together f g None None together = together
-given_together f g None (Some values) together = together
-given_together f g (Some plan) None together = together
-given_together f g (Some plan) (Some values) together = together
-
 -- The fields keep the phase of a statement that has just begun.
-pub begin-keeps : (quantum : ℕ) (statement : Statement) (plan : Option Plan) (values : Option (List Value)) (doomed : Bool) (replies : List Reply) (phase : held.Phase) (held_doomed : Bool) (published : ℕ) (queue : List Request) (held_replies : List Reply)
-    → (IsSome plan ↔ IsSome values)
+pub begin-keeps : (quantum : ℕ) (statement : Statement) (plan : Option Plan) (tables : Option RunData) (doomed : Bool) (replies : List Reply) (phase : held.Phase) (held_doomed : Bool) (published : ℕ) (queue : List Request) (held_replies : List Reply)
+    → (IsSome plan ↔ IsSome tables)
     → Keeps quantum phase held_doomed published queue held_replies (record { phase = idle; doomed = doomed; replies = replies })
-    → Keeps quantum (begun_with (is_some plan) (kept_of statement)) held_doomed published queue held_replies (record { phase = begun statement plan values; doomed = doomed; replies = replies })
+    → Keeps quantum (begun_with (is_some plan) (kept_of statement)) held_doomed published queue held_replies (record { phase = begun statement plan tables; doomed = doomed; replies = replies })
 begin-keeps quantum statement None None doomed replies phase held_doomed published queue held_replies given keeps =
     record { settled = tt; lawful = keeps.lawful; phase_is = refl; doomed_is = keeps.doomed_is; queue_is = keeps.queue_is; replies_is = keeps.replies_is }
-begin-keeps quantum statement (Some plan) (Some values) doomed replies phase held_doomed published queue held_replies given keeps =
+begin-keeps quantum statement (Some plan) (Some tables) doomed replies phase held_doomed published queue held_replies given keeps =
     record {
       settled = refl;
       lawful = record { whole_turns = (0, rw keeps.lawful (omega arith)); unfinished = inl keeps.lawful; rising = omega arith; fixed = λ some. keeps.lawful };
@@ -40,7 +33,7 @@ begin-keeps quantum statement (Some plan) (Some values) doomed replies phase hel
       queue_is = keeps.queue_is;
       replies_is = keeps.replies_is;
     }
-begin-keeps quantum statement None (Some values) doomed replies phase held_doomed published queue held_replies given keeps = let none = given.1 refl in cc
+begin-keeps quantum statement None (Some tables) doomed replies phase held_doomed published queue held_replies given keeps = let none = given.1 refl in cc
 begin-keeps quantum statement (Some plan) None doomed replies phase held_doomed published queue held_replies given keeps = let none = given.0 refl in cc
 
 -- The desk is ready again after a Gone.
@@ -57,25 +50,20 @@ gone-ready old new stamp number ready caller own free doomed room journal capaci
     IsReady-push old fields stamp (Gone number) ready caller comes room journal capacity (FieldsKeep-ready old ready) (AreCounts-ready old ready)
 
 -- The desk is ready again after a Begin.
-pub begin-ready : (old new : Inside) (stamp : Stamp) (event : Event) (number : ℕ) (plan : Option Plan) (values : Option (List Value)) → IsReady old
-    → IsCaller (contents_of old) stamp → phase (contents_of old) ≡ idle → (IsSome plan ↔ IsSome values)
+pub begin-ready : (old new : Inside) (stamp : Stamp) (event : Event) (number : ℕ) (plan : Option Plan) (tables : Option RunData) → IsReady old
+    → IsCaller (contents_of old) stamp → phase (contents_of old) ≡ idle → (IsSome plan ↔ IsSome tables)
     → Comes (contents_of old).terms (state (contents_of old)) (entry_by (contents_of old) stamp event)
     → HasRoom (contents_of old) stamp.actor (entry_by (contents_of old) stamp event ∷ [])
     → new.journal.items ≡ old.journal.items ++ entry_by (contents_of old) stamp event ∷ [] → vec_capacity new.journal ≡ vec_capacity old.journal
     → new.phase ≡ begun_with (is_some plan) (record { statement = number; begin = stamp.seq; killed = false })
     → after (contents_of old).terms (state (contents_of old)) (entry_by (contents_of old) stamp event)
-    ≡ record (state (contents_of old)) { phase = begun (record { number = number; begin = stamp.seq; turn = stamp.turn; killed = false }) plan values }
+    ≡ record (state (contents_of old)) { phase = begun (record { number = number; begin = stamp.seq; turn = stamp.turn; killed = false }) plan tables }
     → let fields : Inside = record old { journal = new.journal; phase = new.phase } in IsReady fields
-begin-ready old new stamp event number plan values ready caller free given comes room journal capacity phase_is leaves =
+begin-ready old new stamp event number plan tables ready caller free given comes room journal capacity phase_is leaves =
     let now = state (contents_of old) in
     let fields : Inside = record old { journal = new.journal; phase = new.phase } in
     let statement : Statement = record { number = number; begin = stamp.seq; turn = stamp.turn; killed = false } in
     let keeps = when_idle (FieldsKeep old) now free (FieldsKeep-ready old ready) in
     IsReady-push old fields stamp event ready caller comes room journal capacity
-    (rw (leaves, phase_is) (begin-keeps old.quantum statement plan values now.doomed now.replies old.phase old.doomed old.published old.queue.items old.replies.items given keeps))
+    (rw (leaves, phase_is) (begin-keeps old.quantum statement plan tables now.doomed now.replies old.phase old.doomed old.published old.queue.items old.replies.items given keeps))
     (AreCounts-ready old ready)
-
--- Something is there whatever is made of it.
-pub is_some-option_map : {A C : Type 0} (f : A → C) (given : Option A) → is_some given ≡ is_some (option_map f given)
-is_some-option_map f None = refl
-is_some-option_map f (Some given) = refl

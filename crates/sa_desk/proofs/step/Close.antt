@@ -5,7 +5,7 @@ use Rattle.sa_desk.specs.declared.entry.Event.TheVariants.{Close}
 use Rattle.sa_desk.specs.declared.stamp.Stamp.{Stamp}
 use Rattle.sa_desk.specs.Comes.{Comes}
 use Rattle.sa_desk.specs.Contents.{Contents, state, entry_by}
-use Rattle.sa_desk.specs.Desk.{contents_of, IsReady}
+use Rattle.sa_desk.specs.inner.Desk.{contents_of, IsReady}
 use Rattle.sa_desk.specs.call.Close.{MayClose}
 use Rattle.sa_desk.specs.declared.phase.Phase.TheVariants.{Closed}
 use Rattle.sa_desk.specs.declared.phase.Phase as held

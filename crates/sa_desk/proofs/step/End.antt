@@ -18,13 +18,13 @@ use Rattle.sa_desk.specs.declared.phase.Phase.TheVariants.{Idle}
 use Rattle.sa_desk.specs.declared.request.Request.{Request}
 use Rattle.sa_desk.specs.declared.request.Reply.{Reply}
 use Rattle.sa_desk.specs.declared.stamp.Stamp.{Stamp}
-use Rattle.sa_desk.specs.State.{Terms, Statement, Execution, Phase, idle, plain, planned, serving, closed, State, IsPublished, IsLawful, queue_of, IsSettled}
+use Rattle.sa_desk.specs.State.{Terms, Statement, Execution, Phase, idle, unplanned, planned, serving, closed, State, IsPublished, IsLawful, queue_of, IsSettled}
 use Rattle.sa_desk.specs.Comes.{Ends}
 use Rattle.sa_desk.specs.After.{begin_of}
 use Rattle.sa_desk.specs.Runs.{state_after, Runs}
 use Rattle.sa_desk.specs.Contents.{Contents, state, phase, IsSound, IsCaller, IsOwner, HasRoom, entry_by, later}
-use Rattle.sa_desk.specs.Desk.{contents_of, outline, IsReady}
-use Rattle.sa_desk.specs.Parts.{answers_with, served_last, answers_last, steps_in, begin_in, kill_stands}
+use Rattle.sa_desk.specs.inner.Desk.{contents_of, held_phase, IsReady}
+use Rattle.sa_desk.specs.inner.Parts.{answers_with, served_last, answers_last, steps_in, begin_in, kill_stands}
 use Rattle.sa_desk.specs.Serving.{report_of, IsRunOf, is_killed}
 use Rattle.sa_desk.specs.call.End.{stopped, run_of, outcome_of, Fits, steps_of, IsGivenRun, IsTimely, served_by, end_entry, end_entries, after_end, IsOn, MayEnd}
 use Rattle.sa_desk.proofs.Append.{state_after-append, Runs-append}
@@ -101,10 +101,10 @@ module _ (desk : Contents) (stamp : Stamp) (number : ℕ) (given : Outcome) wher
   ends run statement own on honest same = record { own = own; on = on; killed = interrupted-killed (is_killed (phase desk)) statement.killed given honest same }
 
   -- Without a run there is the End alone.
-  end-plain : (statement : Statement) → phase desk ≡ plain statement → IsOwner desk stamp → number ≡ statement.number → (given ≡ Interrupted → is_killed (phase desk) ≡ true)
+  end-unplanned : (statement : Statement) → phase desk ≡ unplanned statement → IsOwner desk stamp → number ≡ statement.number → (given ≡ Interrupted → is_killed (phase desk) ≡ true)
       → Leads desk.terms (state desk) (end_entries desk stamp number None given) (ended None)
-  end-plain statement phase_is own on honest =
-      let now : State = record { phase = plain statement; doomed = (state desk).doomed; replies = (state desk).replies } in
+  end-unplanned statement phase_is own on honest =
+      let now : State = record { phase = unplanned statement; doomed = (state desk).doomed; replies = (state desk).replies } in
       let same : now ≡ state desk = ap (λ (it : Phase). record { phase = it; doomed = (state desk).doomed; replies = (state desk).replies }) (sym phase_is) in
       let here : Leads desk.terms now (entry None ∷ []) (ended None) = record {
         runs = ((ends None statement own on honest (ap is_killed phase_is), refl), tt);
@@ -142,9 +142,9 @@ module _ (desk : Contents) (stamp : Stamp) (number : ℕ) (given : Outcome) wher
 
   end-leads : (now : Phase) (run : Option Progress) → phase desk ≡ now → IsSound desk → IsOwner desk stamp → IsOn number now → IsGivenRun now run → IfSome run (IsTimely desk stamp)
       → (given ≡ Interrupted → is_killed (phase desk) ≡ true) → Leads desk.terms (state desk) (end_entries desk stamp number run given) (ended run)
-  end-leads (plain statement) None phase_is sound own on is timely honest = end-plain statement phase_is own on honest
+  end-leads (unplanned statement) None phase_is sound own on is timely honest = end-unplanned statement phase_is own on honest
   end-leads (planned statement execution) (Some run) phase_is sound own on is timely honest = end-planned run statement execution phase_is sound own is timely on honest
-  end-leads (plain statement) (Some run) phase_is sound own on is timely honest = absurd is
+  end-leads (unplanned statement) (Some run) phase_is sound own on is timely honest = absurd is
   end-leads (planned statement execution) None phase_is sound own on is timely honest = absurd is
   end-leads idle run phase_is sound own on is timely honest = absurd on
   end-leads (serving statement execution steps turn) run phase_is sound own on is timely honest = absurd on
@@ -169,7 +169,7 @@ module _ (desk : Contents) (stamp : Stamp) (number : ℕ) (given : Outcome) wher
   -- One for each request, since nobody waits without a run.
   length-served_by : (now : Phase) (run : Option Progress) → phase desk ≡ now → IsOn number now → IsGivenRun now run → length (served_by desk stamp run) ≡ length (queue_of (phase desk))
   length-served_by now (Some run) phase_is on is = length-served desk (report_of run) stamp (queue_of (phase desk))
-  length-served_by (plain statement) None phase_is on is = sym (ap (λ (it : Phase). length (queue_of it)) phase_is)
+  length-served_by (unplanned statement) None phase_is on is = sym (ap (λ (it : Phase). length (queue_of it)) phase_is)
   length-served_by (planned statement execution) None phase_is on is = absurd is
   length-served_by idle None phase_is on is = absurd on
   length-served_by (serving statement execution steps turn) None phase_is on is = absurd on
@@ -180,22 +180,22 @@ steps_in-same None = refl
 steps_in-same (Some run) = refl
 
 -- What a desk keeps of a phase tells the number of the Begin entry, and whether a kill stands.
-begin_in-outline : (now : Phase) → begin_in (outline now) ≡ begin_of now
-begin_in-outline idle = refl
-begin_in-outline (plain statement) = refl
-begin_in-outline (planned statement execution) = refl
-begin_in-outline (serving statement execution steps turn) = refl
-begin_in-outline closed = refl
+begin_in-held_phase : (now : Phase) → begin_in (held_phase now) ≡ begin_of now
+begin_in-held_phase idle = refl
+begin_in-held_phase (unplanned statement) = refl
+begin_in-held_phase (planned statement execution) = refl
+begin_in-held_phase (serving statement execution steps turn) = refl
+begin_in-held_phase closed = refl
 
-kill_stands-outline : (now : Phase) → kill_stands (outline now) ≡ is_killed now
-kill_stands-outline idle = refl
-kill_stands-outline (plain statement) = refl
-kill_stands-outline (planned statement execution) = refl
-kill_stands-outline (serving statement execution steps turn) = refl
-kill_stands-outline closed = refl
+kill_stands-held_phase : (now : Phase) → kill_stands (held_phase now) ≡ is_killed now
+kill_stands-held_phase idle = refl
+kill_stands-held_phase (unplanned statement) = refl
+kill_stands-held_phase (planned statement execution) = refl
+kill_stands-held_phase (serving statement execution steps turn) = refl
+kill_stands-held_phase closed = refl
 
 pub kill_stands-ready : (desk : Inside) → IsReady desk → kill_stands desk.phase ≡ is_killed (phase (contents_of desk))
-kill_stands-ready desk ready = ap kill_stands ready.phase_is ∙ kill_stands-outline (phase (contents_of desk))
+kill_stands-ready desk ready = ap kill_stands ready.phase_is ∙ kill_stands-held_phase (phase (contents_of desk))
 
 module _ (old : Inside) (stamp : Stamp) (number : ℕ) (run : Option Progress) (given : Outcome) (ready : IsReady old) (may : EndsWith (contents_of old) stamp number run given) where
   abbrev desk : Contents
@@ -274,7 +274,7 @@ module _ (old : Inside) (stamp : Stamp) (number : ℕ) (run : Option Progress) (
       → let fields : Inside = record old { journal = new.journal; phase = Idle; published = 0; queue = new.queue; replies = new.replies } in IsReady fields
   end-ready new journal capacity queue replies =
       let fields : Inside = record old { journal = new.journal; phase = Idle; published = 0; queue = new.queue; replies = new.replies } in
-      let begin : begin_in old.phase ≡ begin_of (phase desk) = ap begin_in ready.phase_is ∙ begin_in-outline (phase desk) in
+      let begin : begin_in old.phase ≡ begin_of (phase desk) = ap begin_in ready.phase_is ∙ begin_in-held_phase (phase desk) in
       let answers : new.replies.items ≡ (ended desk stamp number given run).replies =
       replies
       ∙ ap (λ (answered : List Reply). answered ++ answers_last serves (option_map report_of run) old.queue.items) ready.replies

@@ -9,27 +9,27 @@ use Rattle.sa_desk.specs.declared.phase.Phase as held
 use Rattle.sa_desk.specs.declared.request.Request.{Request}
 use Rattle.sa_desk.specs.declared.request.Reply.{Reply}
 use Rattle.sa_desk.specs.declared.stamp.Stamp.{Stamp}
-use Rattle.sa_desk.specs.State.{Phase, idle, plain, planned, serving, closed, IsSettled}
+use Rattle.sa_desk.specs.State.{Phase, idle, unplanned, planned, serving, closed, IsSettled}
 use Rattle.sa_desk.specs.Comes.{Comes}
 use Rattle.sa_desk.specs.After.{after, dooms}
 use Rattle.sa_desk.specs.Contents.{Contents, state, phase, entry_by}
-use Rattle.sa_desk.specs.Desk.{contents_of, outline, IsReady}
-use Rattle.sa_desk.specs.Parts.{is_over, killed_in}
+use Rattle.sa_desk.specs.inner.Desk.{contents_of, held_phase, IsReady}
+use Rattle.sa_desk.specs.inner.Parts.{is_over, killed_in}
 use Rattle.sa_desk.specs.call.Kill.{kill_answer, kill_event, MayKill}
 use Rattle.sa_desk.proofs.Grown.{IsJournal, IsJournal-push}
 use Rattle.sa_desk.proofs.Keeps.{Keeps, FieldsKeep-ready, AreCounts-ready, IsReady-push}
 
 -- What the desk keeps of a phase tells whether it is over.
-pub answer-over : (now : Phase) → is_over (outline now) ≡ true → kill_answer now ≡ answer.NoSuchThread
+pub answer-over : (now : Phase) → is_over (held_phase now) ≡ true → kill_answer now ≡ answer.NoSuchThread
 answer-over idle over = cc
-answer-over (plain statement) over = cc
+answer-over (unplanned statement) over = cc
 answer-over (planned statement execution) over = cc
 answer-over (serving statement execution steps turn) over = cc
 answer-over closed over = refl
 
-pub answer-on : (now : Phase) → is_over (outline now) ≡ false → kill_answer now ≡ answer.Ok
+pub answer-on : (now : Phase) → is_over (held_phase now) ≡ false → kill_answer now ≡ answer.Ok
 answer-on idle on = refl
-answer-on (plain statement) on = refl
+answer-on (unplanned statement) on = refl
 answer-on (planned statement execution) on = refl
 answer-on (serving statement execution steps turn) on = refl
 answer-on closed on = cc
@@ -38,7 +38,7 @@ answer-on closed on = cc
 pub kill-comes : (desk : Contents) (stamp : Stamp) (now : Phase) (doomed : Bool) (replies : List Reply) (number : ℕ) (kind : KillKind) → IsSettled now
     → Comes desk.terms (record { phase = now; doomed = doomed; replies = replies }) (entry_by desk stamp (kill_event (kill_answer now) number kind))
 kill-comes desk stamp idle doomed replies number kind settled = tt
-kill-comes desk stamp (plain statement) doomed replies number kind settled = tt
+kill-comes desk stamp (unplanned statement) doomed replies number kind settled = tt
 kill-comes desk stamp (planned statement execution) doomed replies number kind settled = tt
 kill-comes desk stamp (serving statement execution steps turn) doomed replies number kind settled = absurd settled
 kill-comes desk stamp closed doomed replies number kind settled = tt
@@ -58,7 +58,7 @@ over-keeps : (desk : Contents) (stamp : Stamp) (now : Phase) (doomed : Bool) (re
     → Keeps desk.terms.quantum phase held_doomed published queue held_replies (after desk.terms (record { phase = now; doomed = doomed; replies = replies }) (entry_by desk stamp (kill_event (kill_answer now) number kind)))
 over-keeps desk stamp closed doomed replies number published kind phase held_doomed queue held_replies over keeps = keeps
 over-keeps desk stamp idle doomed replies number published kind phase held_doomed queue held_replies over keeps = cc
-over-keeps desk stamp (plain statement) doomed replies number published kind phase held_doomed queue held_replies over keeps = cc
+over-keeps desk stamp (unplanned statement) doomed replies number published kind phase held_doomed queue held_replies over keeps = cc
 over-keeps desk stamp (planned statement execution) doomed replies number published kind phase held_doomed queue held_replies over keeps = cc
 over-keeps desk stamp (serving statement execution steps turn) doomed replies number published kind phase held_doomed queue held_replies over keeps = cc
 
@@ -69,7 +69,7 @@ stands-keeps : (desk : Contents) (stamp : Stamp) (now : Phase) (doomed : Bool) (
 stands-keeps desk stamp closed doomed replies number published kind phase held_doomed queue held_replies on keeps = cc
 stands-keeps desk stamp idle doomed replies number published kind phase held_doomed queue held_replies on keeps =
     record { settled = keeps.settled; lawful = keeps.lawful; phase_is = ap killed_in keeps.phase_is; doomed_is = ap (λ doomed. doomed || dooms kind) keeps.doomed_is; queue_is = keeps.queue_is; replies_is = keeps.replies_is }
-stands-keeps desk stamp (plain statement) doomed replies number published kind phase held_doomed queue held_replies on keeps =
+stands-keeps desk stamp (unplanned statement) doomed replies number published kind phase held_doomed queue held_replies on keeps =
     record { settled = keeps.settled; lawful = keeps.lawful; phase_is = ap killed_in keeps.phase_is; doomed_is = ap (λ doomed. doomed || dooms kind) keeps.doomed_is; queue_is = keeps.queue_is; replies_is = keeps.replies_is }
 stands-keeps desk stamp (planned statement execution) doomed replies number published kind phase held_doomed queue held_replies on keeps =
     record { settled = keeps.settled; lawful = keeps.lawful; phase_is = ap killed_in keeps.phase_is; doomed_is = ap (λ doomed. doomed || dooms kind) keeps.doomed_is; queue_is = keeps.queue_is; replies_is = keeps.replies_is }

@@ -11,13 +11,13 @@ use Rattle.sa_desk.specs.declared.entry.Event.{Event}
 use Rattle.sa_desk.specs.declared.phase.Phase as held
 use Rattle.sa_desk.specs.declared.request.Request.{Request}
 use Rattle.sa_desk.specs.declared.request.Reply.{Reply}
-use Rattle.sa_desk.specs.declared.request.Wait.{Wait}
+use Rattle.sa_desk.specs.declared.request.OpenWait.{OpenWait}
 use Rattle.sa_desk.specs.declared.stamp.Stamp.{Stamp}
-use Rattle.sa_desk.specs.State.{Phase, idle, plain, planned, serving, closed, State, IsSettled, IsLawful}
+use Rattle.sa_desk.specs.State.{Phase, idle, unplanned, planned, serving, closed, State, IsSettled, IsLawful}
 use Rattle.sa_desk.specs.Runs.{Runs, state_after}
 use Rattle.sa_desk.specs.Contents.{Contents, state, phase, IsCaller, IsPatient, IsSound, entry_by}
-use Rattle.sa_desk.specs.Desk.{contents_of, outline, IsReady}
-use Rattle.sa_desk.specs.Parts.{answer_to_look}
+use Rattle.sa_desk.specs.inner.Desk.{contents_of, held_phase, IsReady}
+use Rattle.sa_desk.specs.inner.Parts.{answer_to_look}
 use Rattle.sa_desk.specs.call.Look.{looks_of, look_answer, look_events, wait_after, looks_before, looked, look_entries, MayLook}
 use Rattle.sa_desk.proofs.Grown.{IsBy, IsJournal, IsJournal-append}
 use Rattle.sa_desk.proofs.Keeps.{Keeps, FieldsKeep-ready, IsReady-next}
@@ -48,7 +48,7 @@ module _ (desk : Contents) (stamp : Stamp) (number at published looks turns : �
 
   pub look-runs : (now : Phase) → IsSettled now → IsLawful desk.terms.quantum now published → RunsAs now (look_answer now at published looks turns)
   look-runs idle settled lawful = open_cases (RunsAs idle) published turns (nat_lt published at) (looks + 1 == turns) (lawful, tt) (lawful, tt) tt
-  look-runs (plain statement) settled lawful = open_cases (RunsAs (plain statement)) published turns (nat_lt published at) (looks + 1 == turns) (lawful, tt) (lawful, tt) tt
+  look-runs (unplanned statement) settled lawful = open_cases (RunsAs (unplanned statement)) published turns (nat_lt published at) (looks + 1 == turns) (lawful, tt) (lawful, tt) tt
   look-runs (planned statement execution) settled lawful =
       open_cases (RunsAs (planned statement execution)) published turns (nat_lt published at) (looks + 1 == turns) (lawful, tt) (lawful, tt) tt
   look-runs (serving statement execution steps turn) settled lawful = absurd settled
@@ -64,7 +64,7 @@ module _ (desk : Contents) (stamp : Stamp) (number at published looks turns : �
 
     pub look-keeps : (now : Phase) → Kept (there now) → KeepsAs now (look_answer now at published looks turns)
     look-keeps idle keeps = open_cases (KeepsAs idle) published turns (nat_lt published at) (looks + 1 == turns) keeps keeps keeps
-    look-keeps (plain statement) keeps = open_cases (KeepsAs (plain statement)) published turns (nat_lt published at) (looks + 1 == turns) keeps keeps keeps
+    look-keeps (unplanned statement) keeps = open_cases (KeepsAs (unplanned statement)) published turns (nat_lt published at) (looks + 1 == turns) keeps keeps keeps
     look-keeps (planned statement execution) keeps =
         let shown : Kept (there (planned statement (record execution { shown = published }))) =
         record {
@@ -95,7 +95,7 @@ patient_open number at published looks turns true less =
 
 wait-patient : (number at published looks turns : ℕ) (now : Phase) → looks < turns → IsPatient turns (wait_after (look_answer now at published looks turns) number at looks)
 wait-patient number at published looks turns idle less = patient_open number at published looks turns (nat_lt published at) less
-wait-patient number at published looks turns (plain statement) less = patient_open number at published looks turns (nat_lt published at) less
+wait-patient number at published looks turns (unplanned statement) less = patient_open number at published looks turns (nat_lt published at) less
 wait-patient number at published looks turns (planned statement execution) less = patient_open number at published looks turns (nat_lt published at) less
 wait-patient number at published looks turns (serving statement execution steps turn) less = patient_open number at published looks turns (nat_lt published at) less
 wait-patient number at published looks turns closed less = tt
@@ -104,7 +104,7 @@ less_if : (same : Bool) (looks turns : ℕ) → 0 < turns → looks < turns → 
 less_if true looks turns some less = less
 less_if false looks turns some less = some
 
-looks-less-of : (wait : Option Wait) (number at turns : ℕ) → 0 < turns → IsPatient turns wait → looks_of wait number at < turns
+looks-less-of : (wait : Option OpenWait) (number at turns : ℕ) → 0 < turns → IsPatient turns wait → looks_of wait number at < turns
 looks-less-of None number at turns some patient = some
 looks-less-of (Some wait) number at turns some patient = less_if (wait.statement == number && wait.at == at) wait.looks turns some patient
 
@@ -145,15 +145,15 @@ look-ready old new stamp number at budget ready may journal capacity waits =
     })
 
 -- What the desk keeps of a phase tells how a look is answered.
-pub answer_to_look-outline : (now : Phase) (at published looks turns : ℕ) → answer_to_look (outline now) at published looks turns ≡ look_answer now at published looks turns
-answer_to_look-outline idle at published looks turns = refl
-answer_to_look-outline (plain statement) at published looks turns = refl
-answer_to_look-outline (planned statement execution) at published looks turns = refl
-answer_to_look-outline (serving statement execution steps turn) at published looks turns = refl
-answer_to_look-outline closed at published looks turns = refl
+pub answer_to_look-held_phase : (now : Phase) (at published looks turns : ℕ) → answer_to_look (held_phase now) at published looks turns ≡ look_answer now at published looks turns
+answer_to_look-held_phase idle at published looks turns = refl
+answer_to_look-held_phase (unplanned statement) at published looks turns = refl
+answer_to_look-held_phase (planned statement execution) at published looks turns = refl
+answer_to_look-held_phase (serving statement execution steps turn) at published looks turns = refl
+answer_to_look-held_phase closed at published looks turns = refl
 
 -- so the desk answers as it has to
 pub answer_to_look-ready : (desk : Inside) (stamp : Stamp) (number at budget looks : ℕ) → IsReady desk → MayLook (contents_of desk) stamp number at budget → looks ≡ looks_before (contents_of desk) stamp number at
     → answer_to_look desk.phase at desk.published looks budget ≡ looked (contents_of desk) stamp number at
 answer_to_look-ready desk stamp number at budget looks ready may same =
-    rw (same, may.budget_is, ready.phase_is) (answer_to_look-outline (phase (contents_of desk)) at desk.published (looks_before (contents_of desk) stamp number at) desk.turns)
+    rw (same, may.budget_is, ready.phase_is) (answer_to_look-held_phase (phase (contents_of desk)) at desk.published (looks_before (contents_of desk) stamp number at) desk.turns)

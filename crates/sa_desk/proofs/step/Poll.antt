@@ -9,12 +9,12 @@ use Rattle.sa_desk.specs.declared.phase.Phase as held
 use Rattle.sa_desk.specs.declared.request.Request.{Request}
 use Rattle.sa_desk.specs.declared.request.Reply.{Reply}
 use Rattle.sa_desk.specs.declared.stamp.Stamp.{Stamp}
-use Rattle.sa_desk.specs.State.{Phase, idle, plain, planned, serving, closed, queue_of, IsSettled}
+use Rattle.sa_desk.specs.State.{Phase, idle, unplanned, planned, serving, closed, queue_of, IsSettled}
 use Rattle.sa_desk.specs.Comes.{Comes, IsQueued, IsServed}
 use Rattle.sa_desk.specs.After.{without, untaken, taken_out}
 use Rattle.sa_desk.specs.Contents.{Contents, state, phase, IsCaller, HasRoom, entry_by}
 use Rattle.sa_desk.specs.declared.answer.Polled.TheVariants as answer
-use Rattle.sa_desk.specs.Desk.{contents_of, IsReady}
+use Rattle.sa_desk.specs.inner.Desk.{contents_of, IsReady}
 use Rattle.sa_desk.specs.call.Poll.{reply_to, poll_answer, poll_events, polled, poll_entries}
 use Rattle.sa_desk.proofs.Keeps.{Keeps, FieldsKeep-ready, AreCounts-ready, IsReady-push}
 
@@ -22,7 +22,7 @@ use Rattle.sa_desk.proofs.Keeps.{Keeps, FieldsKeep-ready, AreCounts-ready, IsRea
 pub taken-comes : (desk : Contents) (stamp : Stamp) (now : Phase) (doomed : Bool) (replies : List Reply) (number : ℕ) → IsSettled now → IsServed stamp.actor number replies
     → Comes desk.terms (record { phase = now; doomed = doomed; replies = replies }) (entry_by desk stamp (Taken number))
 taken-comes desk stamp idle doomed replies number settled served = served
-taken-comes desk stamp (plain statement) doomed replies number settled served = served
+taken-comes desk stamp (unplanned statement) doomed replies number settled served = served
 taken-comes desk stamp (planned statement execution) doomed replies number settled served = served
 taken-comes desk stamp (serving statement execution steps turn) doomed replies number settled served = absurd settled
 taken-comes desk stamp closed doomed replies number settled served = served
@@ -73,7 +73,7 @@ none-queued actor number queued = absurd (omega (arith, queued.2))
 pub spent-comes : (desk : Contents) (stamp : Stamp) (now : Phase) (doomed : Bool) (replies : List Reply) (number : ℕ) → IsSettled now → IsQueued stamp.actor number (queue_of now)
     → Comes desk.terms (record { phase = now; doomed = doomed; replies = replies }) (entry_by desk stamp (Spent number desk.terms.turns))
 spent-comes desk stamp idle doomed replies number settled queued = none-queued stamp.actor number queued
-spent-comes desk stamp (plain statement) doomed replies number settled queued = none-queued stamp.actor number queued
+spent-comes desk stamp (unplanned statement) doomed replies number settled queued = none-queued stamp.actor number queued
 spent-comes desk stamp (planned statement execution) doomed replies number settled queued = (queued, refl)
 spent-comes desk stamp (serving statement execution steps turn) doomed replies number settled queued = absurd settled
 spent-comes desk stamp closed doomed replies number settled queued = none-queued stamp.actor number queued
@@ -88,7 +88,7 @@ pub out-keeps : (quantum actor : ℕ) (now : Phase) (doomed : Bool) (replies : L
     → Keeps quantum phase held_doomed published queue held_replies (record { phase = now; doomed = doomed; replies = replies })
     → Keeps quantum phase held_doomed published (without actor queue) held_replies (record { phase = taken_out now actor; doomed = doomed; replies = replies })
 out-keeps quantum actor idle doomed replies number published phase held_doomed queue held_replies queued keeps = none-queued actor number queued
-out-keeps quantum actor (plain statement) doomed replies number published phase held_doomed queue held_replies queued keeps = none-queued actor number queued
+out-keeps quantum actor (unplanned statement) doomed replies number published phase held_doomed queue held_replies queued keeps = none-queued actor number queued
 out-keeps quantum actor (planned statement execution) doomed replies number published phase held_doomed queue held_replies queued keeps =
     record {
       settled = keeps.settled;

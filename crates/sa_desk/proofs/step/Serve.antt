@@ -10,14 +10,14 @@ use Rattle.sa_desk.specs.declared.entry.Event.TheVariants.{Served}
 use Rattle.sa_desk.specs.declared.request.Request.{Request}
 use Rattle.sa_desk.specs.declared.request.Reply.{Reply}
 use Rattle.sa_desk.specs.declared.stamp.Stamp.{Stamp}
-use Rattle.sa_desk.specs.State.{Terms, Statement, Execution, Phase, idle, plain, planned, serving, closed, State, queue_of}
+use Rattle.sa_desk.specs.State.{Terms, Statement, Execution, Phase, idle, unplanned, planned, serving, closed, State, queue_of}
 use Rattle.sa_desk.specs.Comes.{Serves, Comes}
 use Rattle.sa_desk.specs.After.{after, still_serving, first_owed}
 use Rattle.sa_desk.specs.Runs.{state_after, Runs}
 use Rattle.sa_desk.specs.Contents.{Contents, state, phase, IsSound, IsOwner, entry_by, later}
 use Rattle.sa_desk.specs.Serving.{report_of, served_with, served_entries, IsRunOf, begin_turn}
 use Rattle.sa_desk.specs.call.End.{IsTimely}
-use Rattle.sa_desk.specs.Parts.{answers_with, served_from}
+use Rattle.sa_desk.specs.inner.Parts.{answers_with, served_from}
 use Rattle.sa_desk.proofs.Queue.{AllAt, queued_at_published}
 use Rattle.sa_desk.proofs.Grown.{IsBy}
 
@@ -49,9 +49,9 @@ module _ (quantum : ℕ) (execution : Execution) (report : Report) (at turn : �
   all_served-plan [] = refl
   all_served-plan (first ∷ rest) = refl
 
-  pub all_served-values : (queue : List Request) → (all_served queue).values ≡ execution.values
-  all_served-values [] = refl
-  all_served-values (first ∷ rest) = refl
+  pub all_served-tables : (queue : List Request) → (all_served queue).tables ≡ execution.tables
+  all_served-tables [] = refl
+  all_served-tables (first ∷ rest) = refl
 
   -- The number that is shown rises to that of the report at most.
   pub all_served-rising : (queue : List Request) → execution.shown ≤ report.steps → (all_served queue).shown ≤ report.steps
@@ -83,7 +83,7 @@ module _ (desk : Contents) (statement : Statement) (execution : Execution) (repo
   pub record MayServe : Type 0 where
     pub own : actor ≡ desk.terms.desk
     pub turn_is : turn ≡ statement.turn + at / desk.terms.quantum + 1
-    pub counted : report ≡ counts statement.number execution.plan execution.values report.steps
+    pub counted : report ≡ counts statement.number execution.plan execution.tables report.steps
     pub least : at ≤ report.steps
     pub most : report.steps ≤ at + desk.terms.quantum
 
@@ -94,13 +94,13 @@ module _ (desk : Contents) (statement : Statement) (execution : Execution) (repo
   stamped seq = record { actor = actor; seq = seq; turn = turn }
 
   -- The first of them is served.
-  serves : (waits : Execution) (first : Request) (seq : ℕ) → MayServe → first.at ≡ at → waits.plan ≡ execution.plan → waits.values ≡ execution.values
+  serves : (waits : Execution) (first : Request) (seq : ℕ) → MayServe → first.at ≡ at → waits.plan ≡ execution.plan → waits.tables ≡ execution.tables
       → Serves desk.terms statement waits first (entry_by desk (stamped seq) (Served first.asker first.request report)) first.asker first.request report
-  serves waits first seq may first_at plan values = record {
+  serves waits first seq may first_at plan tables = record {
     own = may.own;
     asked = (refl, refl);
     turn = rw first_at may.turn_is;
-    counted = rw (plan, values) may.counted;
+    counted = rw (plan, tables) may.counted;
     least = rw first_at may.least;
     most = rw first_at may.most;
   }
@@ -212,7 +212,7 @@ served-same desk report stamp queue same = served_from-with desk report stamp qu
 -- A run is of a statement with a plan.
 pub on_planned : (now : Phase) (run : Progress) → IsRunOf now run → (statement : Statement) × (execution : Execution) × (now ≡ planned statement execution) × IsRunOf (planned statement execution) run
 on_planned idle run is = absurd is
-on_planned (plain statement) run is = absurd is
+on_planned (unplanned statement) run is = absurd is
 on_planned (planned statement execution) run is = (statement, execution, refl, is)
 on_planned (serving statement execution steps turn) run is = absurd is
 on_planned closed run is = absurd is

@@ -5,11 +5,11 @@ use Rattle.sa_desk.specs.declared.answer.Withdrawn.TheVariants as answer
 use Rattle.sa_desk.specs.declared.entry.Event.TheVariants.{Taken, Withdrawn}
 use Rattle.sa_desk.specs.declared.request.Reply.{Reply}
 use Rattle.sa_desk.specs.declared.stamp.Stamp.{Stamp}
-use Rattle.sa_desk.specs.State.{Phase, idle, plain, planned, serving, closed, queue_of, IsSettled}
+use Rattle.sa_desk.specs.State.{Phase, idle, unplanned, planned, serving, closed, queue_of, IsSettled}
 use Rattle.sa_desk.specs.Comes.{Comes, IsQueued}
 use Rattle.sa_desk.specs.After.{without}
 use Rattle.sa_desk.specs.Contents.{Contents, state, phase, IsCaller, HasRoom, entry_by}
-use Rattle.sa_desk.specs.Desk.{contents_of, IsReady}
+use Rattle.sa_desk.specs.inner.Desk.{contents_of, IsReady}
 use Rattle.sa_desk.specs.call.Poll.{reply_to}
 use Rattle.sa_desk.specs.call.Withdraw.{withdraw_answer, withdraw_event, withdrawn, withdraw_entries}
 use Rattle.sa_desk.proofs.Keeps.{FieldsKeep-ready, AreCounts-ready, IsReady-push}
@@ -33,7 +33,7 @@ removed-room desk stamp number removed room = subst (λ answer. HasRoom desk sta
 pub removed-comes : (desk : Contents) (stamp : Stamp) (now : Phase) (doomed : Bool) (replies : List Reply) (number : ℕ) → IsSettled now → IsQueued stamp.actor number (queue_of now)
     → Comes desk.terms (record { phase = now; doomed = doomed; replies = replies }) (entry_by desk stamp (Withdrawn number))
 removed-comes desk stamp idle doomed replies number settled queued = none-queued stamp.actor number queued
-removed-comes desk stamp (plain statement) doomed replies number settled queued = none-queued stamp.actor number queued
+removed-comes desk stamp (unplanned statement) doomed replies number settled queued = none-queued stamp.actor number queued
 removed-comes desk stamp (planned statement execution) doomed replies number settled queued = queued
 removed-comes desk stamp (serving statement execution steps turn) doomed replies number settled queued = absurd settled
 removed-comes desk stamp closed doomed replies number settled queued = none-queued stamp.actor number queued

@@ -1,12 +1,13 @@
 -- Session 2 asks for a plan where none is on: on desk 1 before session 1 begins its query, and on its own desk.
 use Rattle.std.proofs.Common.{List, [], ◌∷◌, rules}
-use Rattle.sa_meaning.specs.Item.{passes}
+use Rattle.sa_meaning.specs.Items.{items, passes}
+use Rattle.sa_meaning.specs.Counts.{level_counters, sent_count}
 use Rattle.sa_desk.specs.declared.entry.Entry.{Entry}
 use Rattle.sa_desk.specs.declared.entry.Event.TheVariants.{Refused, End, Close}
 use Rattle.sa_desk.specs.declared.entry.RefusedWhy.TheVariants.{NotExplainable, NoSuchThread}
 use Rattle.sa_desk.specs.declared.outcome.Outcome.TheVariants as outcome
 use Rattle.sa_desk.specs.Runs.{IsDeskRun}
-use Rattle.sa_desk.proofs.worked.Query.{Open, on_1, on_2, begin_query, begin_plain, two_rows, terms_of, changed, dropped, exchanged, IsRefused}
+use Rattle.sa_desk.proofs.worked.Query.{Open, on_1, on_2, begin_query, begin_plain, all_rows, terms_of, changed, dropped, exchanged, IsRefused}
 
 module _ (given : Open) where
   -- desk 1
@@ -17,7 +18,7 @@ module _ (given : Open) where
   begin_1 = on_1 1 1 1 (begin_query given 1)
 
   abbrev pub end_1 : Entry
-  end_1 = on_1 1 2 2 (End 1 (two_rows given) 6)
+  end_1 = on_1 1 2 2 (End 1 (all_rows given) 7)
 
   abbrev pub close_1 : Entry
   close_1 = on_1 1 3 3 Close
@@ -26,46 +27,46 @@ module _ (given : Open) where
   journal = refused_to_2 ∷ begin_1 ∷ end_1 ∷ close_1 ∷ []
 
   pub accepted_1 : IsDeskRun (record (terms_of 1) { quantum = 64 }) journal
-  unfolding passes
+  unfolding items passes level_counters sent_count
   accepted_1 = search rules
 
   -- One entry is changed: there is a session, and nobody has killed its statement.
   pub refused_no_such_thread : IsRefused (record (terms_of 1) { quantum = 64 }) (changed 1 (record refused_to_2 { event = Refused 1 NoSuchThread }) journal)
-  unfolding passes
+  unfolding items passes level_counters sent_count
   refused_no_such_thread run = search rules
 
   pub begun_by_2 : IsRefused (record (terms_of 1) { quantum = 64 }) (changed 2 (record begin_1 { actor = 2 }) journal)
-  unfolding passes
+  unfolding items passes level_counters sent_count
   begun_by_2 run = search rules
 
-  pub ended_interrupted : IsRefused (record (terms_of 1) { quantum = 64 }) (changed 3 (record end_1 { event = End 1 outcome.Interrupted 6 }) journal)
-  unfolding passes
+  pub ended_interrupted : IsRefused (record (terms_of 1) { quantum = 64 }) (changed 3 (record end_1 { event = End 1 outcome.Interrupted 7 }) journal)
+  unfolding items passes level_counters sent_count
   ended_interrupted run = search rules
 
-  pub ended_statement_2 : IsRefused (record (terms_of 1) { quantum = 64 }) (changed 3 (record end_1 { event = End 2 (two_rows given) 6 }) journal)
-  unfolding passes
+  pub ended_statement_2 : IsRefused (record (terms_of 1) { quantum = 64 }) (changed 3 (record end_1 { event = End 2 (all_rows given) 7 }) journal)
+  unfolding items passes level_counters sent_count
   ended_statement_2 run = search rules
 
   -- Two neighbours are exchanged: while the query is on, a request is queued.
   pub refused_after_begin : IsRefused (record (terms_of 1) { quantum = 64 }) (exchanged 1 journal)
-  unfolding passes
+  unfolding items passes level_counters sent_count
   refused_after_begin run = search rules
 
   pub ended_before_begin : IsRefused (record (terms_of 1) { quantum = 64 }) (exchanged 2 journal)
-  unfolding passes
+  unfolding items passes level_counters sent_count
   ended_before_begin run = search rules
 
   pub closed_before_end : IsRefused (record (terms_of 1) { quantum = 64 }) (exchanged 3 journal)
-  unfolding passes
+  unfolding items passes level_counters sent_count
   closed_before_end run = search rules
 
   -- One entry is dropped.
   pub never_begun : IsRefused (record (terms_of 1) { quantum = 64 }) (dropped 2 journal)
-  unfolding passes
+  unfolding items passes level_counters sent_count
   never_begun run = search rules
 
   pub never_ended : IsRefused (record (terms_of 1) { quantum = 64 }) (dropped 3 journal)
-  unfolding passes
+  unfolding items passes level_counters sent_count
   never_ended run = search rules
 
   -- desk 2
@@ -104,7 +105,7 @@ module _ (given : Open) where
   first_ended_again run = search rules
 
   pub second_with_plan : IsRefused (record (terms_of 2) { quantum = 64 }) (changed 3 (record begin_second { event = begin_query given 2 }) journal_2)
-  unfolding passes
+  unfolding items passes level_counters sent_count
   second_with_plan run = search rules
 
   -- Two neighbours are exchanged: one statement at a time.

@@ -1,12 +1,12 @@
--- What the worked journals share: the query `SELECT a FROM t WHERE a >= 2` over the values 1, 2 and 3, as session 1 runs it.
+-- What the worked journals share: the query `SELECT a FROM t` over the values 1, 2 and 3, which has seven items, as session 1 runs it.
 use Rattle.std.proofs.Common.{ℕ, ◌-◌, pos, List, [], ◌∷◌, ◌++◌, take, drop, Some, None}
-use denote.RawPtr.{Ptr}
-use Rattle.sa_value.specs.declared.truth.CompareOp.TheVariants.{Ge}
-use Rattle.sa_value.specs.declared.value.Value.{Value}
 use Rattle.sa_value.specs.declared.value.Value.TheVariants.{Int}
 use Rattle.sa_count.specs.declared.report.Report.{Report}
+use Rattle.sa_cond.specs.declared.expr.Expr.TheVariants.{Column}
+use Rattle.sa_table.specs.declared.def.TableDef.{TableDef}
+use Rattle.sa_plan.specs.declared.plan.Access.TheVariants as access
 use Rattle.sa_plan.specs.declared.plan.Plan.{Plan}
-use Rattle.sa_plan.specs.Plan.{plan_for}
+use Rattle.sa_meaning.specs.Data.{RunData}
 use Rattle.sa_desk.specs.declared.entry.Entry.{Entry}
 use Rattle.sa_desk.specs.declared.entry.Event.{Event}
 use Rattle.sa_desk.specs.declared.entry.Event.TheVariants.{Begin}
@@ -15,14 +15,13 @@ use Rattle.sa_desk.specs.declared.outcome.Outcome.TheVariants.{Rows}
 use Rattle.sa_desk.specs.State.{Terms}
 use Rattle.sa_desk.specs.Runs.{IsDeskRun}
 
--- What the examples leave open: the bytes of the texts and names, and where the plan and the values lie in memory.
+-- What the examples leave open: the bytes of the texts and names, and how the table is defined.
 pub record Open : Type 0 where
   pub query_text : List ℕ
   pub other_text : List ℕ
-  pub table : List ℕ
+  pub alias : List ℕ
   pub column : List ℕ
-  pub plan_at : Ptr
-  pub values_at : Ptr
+  pub def : TableDef
 
 -- an entry on desk 1, and one on desk 2
 abbrev pub on_1 : (actor seq turn : ℕ) → Event → Entry
@@ -33,30 +32,41 @@ on_2 actor seq turn event = record { desk = 2; actor = actor; seq = seq; turn = 
 
 module _ (given : Open) where
   abbrev pub plan : Plan
-  plan = plan_for given.table given.column Ge (pos 2) 3
+  plan = record {
+    levels = record {
+      position = 0;
+      table = 0;
+      alias = given.alias;
+      access = access.All;
+      conditions = [];
+      estimate = 3;
+    } ∷ [];
+    select = record { name = given.column; value = Column 0 0 } ∷ [];
+    cost = 35;
+  }
 
-  abbrev pub values : List Value
-  values = Int (pos 1) ∷ Int (pos 2) ∷ Int (pos 3) ∷ []
+  abbrev pub tables : RunData
+  tables = record { def = given.def; rows = (Int (pos 1) ∷ []) ∷ (Int (pos 2) ∷ []) ∷ (Int (pos 3) ∷ []) ∷ [] } ∷ []
 
   -- The query begins as this statement.
   abbrev pub begin_query : ℕ → Event
-  begin_query number = Begin number given.query_text 0 (Some (record { ptr = given.plan_at; value = plan })) (Some (record { ptr = given.values_at; value = values }))
+  begin_query number = Begin number given.query_text 0 (Some plan) (Some tables)
 
   -- A statement without a plan begins.
   abbrev pub begin_plain : ℕ → Event
   begin_plain number = Begin number given.other_text 0 None None
 
-  -- its two rows
-  abbrev pub two_rows : Outcome
-  two_rows = Rows (given.column ∷ []) ((Int (pos 2) ∷ []) ∷ (Int (pos 3) ∷ []) ∷ [])
+  -- its rows
+  abbrev pub all_rows : Outcome
+  all_rows = Rows (given.column ∷ []) ((Int (pos 1) ∷ []) ∷ (Int (pos 2) ∷ []) ∷ (Int (pos 3) ∷ []) ∷ [])
 
--- Entries are counted from 1. The journal with another entry at this place, without the entry there, with that entry and the
+-- Entries are counted from 1. The journal with another entry at this index, without the entry there, with that entry and the
 -- next one exchanged, and with a further entry behind it.
 abbrev pub changed : ℕ → Entry → List Entry → List Entry
-changed place entry journal = take (place - 1) journal ++ entry ∷ drop place journal
+changed index entry journal = take (index - 1) journal ++ entry ∷ drop index journal
 
 abbrev pub dropped : ℕ → List Entry → List Entry
-dropped place journal = take (place - 1) journal ++ drop place journal
+dropped index journal = take (index - 1) journal ++ drop index journal
 
 abbrev pub swapped : List Entry → List Entry
 swapped [] = []
@@ -64,10 +74,10 @@ swapped (first ∷ []) = first ∷ []
 swapped (first ∷ second ∷ rest) = second ∷ first ∷ rest
 
 abbrev pub exchanged : ℕ → List Entry → List Entry
-exchanged place journal = take (place - 1) journal ++ swapped (drop (place - 1) journal)
+exchanged index journal = take (index - 1) journal ++ swapped (drop (index - 1) journal)
 
 abbrev pub inserted : ℕ → Entry → List Entry → List Entry
-inserted place entry journal = take place journal ++ entry ∷ drop place journal
+inserted index entry journal = take index journal ++ entry ∷ drop index journal
 
 -- No desk with these terms writes this journal.
 abbrev pub IsRefused : Terms → List Entry → Type 0

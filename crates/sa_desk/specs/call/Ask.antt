@@ -8,13 +8,13 @@ use Rattle.sa_desk.specs.declared.entry.RefusedWhy.TheVariants as why
 use Rattle.sa_desk.specs.declared.answer.Asked.{Asked}
 use Rattle.sa_desk.specs.declared.answer.Asked.TheVariants.{Queued, NotExplainable, NoSuchThread}
 use Rattle.sa_desk.specs.declared.stamp.Stamp.{Stamp}
-use Rattle.sa_desk.specs.State.{Phase, idle, plain, planned, serving, closed, HasNone}
+use Rattle.sa_desk.specs.State.{Phase, idle, unplanned, planned, serving, closed, HasNone}
 use Rattle.sa_desk.specs.Contents.{Contents, state, phase, IsCaller, HasRoom, entry_by, with_entries}
 
 -- The request is queued where a plan is on, and refused elsewhere.
 abbrev pub ask_answer : Phase → Asked
 ask_answer idle = NotExplainable
-ask_answer (plain statement) = NotExplainable
+ask_answer (unplanned statement) = NotExplainable
 ask_answer (planned statement execution) = Queued
 ask_answer (serving statement execution steps turn) = Queued
 ask_answer closed = NoSuchThread

@@ -13,7 +13,7 @@ use Rattle.sa_desk.specs.declared.outcome.Outcome.TheVariants as outcome
 use Rattle.sa_desk.specs.declared.outcome.StepStop.{StepStop}
 use Rattle.sa_desk.specs.declared.outcome.StepStop.TheVariants.{RowLimit, TooManyRows, OutOfMemory, Killed}
 use Rattle.sa_desk.specs.declared.stamp.Stamp.{Stamp}
-use Rattle.sa_desk.specs.State.{Phase, plain, planned}
+use Rattle.sa_desk.specs.State.{Phase, unplanned, planned}
 use Rattle.sa_desk.specs.Contents.{Contents, phase, IsCaller, IsOwner, HasRoom, entry_by, later, with_entries}
 use Rattle.sa_desk.specs.Serving.{served_entries, report_of, IsRunOf, begin_turn, is_killed}
 
@@ -46,7 +46,7 @@ module _ {R : Type 0} (progress : R → Progress) where
   -- the outcome where no kill stands
   abbrev pub outcome_of : Finish R → Outcome
   outcome_of (Plain given) = given
-  outcome_of (Rows names run) = let made = progress run in outcome.Rows names (output made.plan made.values)
+  outcome_of (Rows names run) = let made = progress run in outcome.Rows names (output made.plan made.data_read)
   outcome_of (Analyzed plan run) = outcome.Analyzed plan (report_of (progress run))
   outcome_of (Broken fault run) = stopped fault
 
@@ -57,7 +57,7 @@ steps_of (Some run) = run.steps
 
 -- A run is given exactly where a plan is on, and it is of that plan.
 abbrev pub IsGivenRun : Phase → Option Progress → Type 0
-IsGivenRun (plain statement) None = ⊤
+IsGivenRun (unplanned statement) None = ⊤
 IsGivenRun (planned statement execution) (Some run) = IsRunOf (planned statement execution) run
 IsGivenRun phase run = ⊥
 
@@ -88,7 +88,7 @@ module _ (desk : Contents) (stamp : Stamp) (number : ℕ) (run : Option Progress
 
 -- the statement that is on, by its number
 abbrev pub IsOn : ℕ → Phase → Type 0
-IsOn number (plain statement) = number ≡ statement.number
+IsOn number (unplanned statement) = number ≡ statement.number
 IsOn number (planned statement execution) = number ≡ statement.number
 IsOn number phase = ⊥
 

@@ -6,13 +6,13 @@ use Rattle.sa_desk.specs.declared.entry.Event.TheVariants as event
 use Rattle.sa_desk.specs.declared.entry.RefusedWhy.TheVariants as why
 use Rattle.sa_desk.specs.declared.answer.Looked.{Looked}
 use Rattle.sa_desk.specs.declared.answer.Looked.TheVariants.{NoSuchThread, Reached, Spent, NotYet}
-use Rattle.sa_desk.specs.declared.request.Wait.{Wait}
+use Rattle.sa_desk.specs.declared.request.OpenWait.{OpenWait}
 use Rattle.sa_desk.specs.declared.stamp.Stamp.{Stamp}
 use Rattle.sa_desk.specs.State.{Phase, closed}
 use Rattle.sa_desk.specs.Contents.{Contents, phase, IsCaller, HasRoom, entry_by, with_entries}
 
 -- How often an open wait of this statement for these steps has looked. Another wait counts for nothing.
-abbrev pub looks_of : Option Wait → (number at : ℕ) → ℕ
+abbrev pub looks_of : Option OpenWait → (number at : ℕ) → ℕ
 looks_of None number at = 0
 looks_of (Some wait) number at = if wait.statement == number && wait.at == at then wait.looks else 0
 
@@ -32,7 +32,7 @@ look_events (Spent steps turns) number = event.WaitSpent number steps turns ∷ 
 look_events NotYet number = []
 
 -- The wait goes on where it isn't over.
-abbrev pub wait_after : Looked → (number at looks : ℕ) → Option Wait
+abbrev pub wait_after : Looked → (number at looks : ℕ) → Option OpenWait
 wait_after NotYet number at looks = Some (record { statement = number; at = at; looks = looks + 1 })
 wait_after looked number at looks = None
 

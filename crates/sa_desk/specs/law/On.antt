@@ -1,10 +1,8 @@
 -- Which statement is on after the first entries of a journal, as the entries themselves tell.
 use Rattle.std.specs.Prelude.{◌≡◌, ℕ, ⊤, List, ◌∷◌, ◌++◌, Option, All}
-use Rattle.std.specs.Global.{Global}
-use Rattle.std.specs.declared.sync.Arc.{Arc}
 use Rattle.sa_value.specs.declared.text.Text.{Text}
-use Rattle.sa_value.specs.declared.values.Values.{Values}
 use Rattle.sa_plan.specs.declared.plan.Plan.{Plan}
+use Rattle.sa_meaning.specs.Data.{RunData}
 use Rattle.sa_desk.specs.declared.entry.Entry.{Entry}
 use Rattle.sa_desk.specs.declared.entry.Event.{Event}
 use Rattle.sa_desk.specs.declared.entry.Event.TheVariants.{Begin, End}
@@ -12,7 +10,7 @@ use Rattle.sa_desk.specs.State.{Terms}
 
 -- neither a Begin nor an End
 abbrev pub IsWithin : Event → Type 0
-IsWithin (Begin number text version plan values) = ⊥
+IsWithin (Begin number text version plan tables) = ⊥
 IsWithin (End number outcome steps) = ⊥
 IsWithin event = ⊤
 
@@ -26,7 +24,7 @@ pub record IsOn (terms : Terms) (number : ℕ) (before : List Entry) : Type 0 wh
   pub own : begin.actor ≡ terms.desk
   pub text : Text
   pub version : ℕ
-  pub plan : Option (Arc Plan Global)
-  pub values : Option (Arc Values Global)
-  pub begins : begin.event ≡ Begin number text version plan values
+  pub plan : Option Plan
+  pub tables : Option RunData
+  pub begins : begin.event ≡ Begin number text version plan tables
   pub within : All (λ entry. IsWithin entry.event) since

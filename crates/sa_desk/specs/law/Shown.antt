@@ -1,9 +1,8 @@
 -- Whoever asks is shown the plan that runs, and what it has counted.
-use Rattle.std.specs.Prelude.{◌≡◌, ℕ, ◌+◌, ◌≤◌, List, [], ◌∷◌, ◌++◌, Some, option_map}
-use Rattle.std.specs.Arc.{arc_value}
-use Rattle.sa_value.specs.declared.value.Value.{Value}
+use Rattle.std.specs.Prelude.{◌≡◌, ℕ, ◌+◌, ◌≤◌, List, [], ◌∷◌, ◌++◌, Some}
 use Rattle.sa_ast.specs.declared.kind.AskKind.{AskKind}
 use Rattle.sa_plan.specs.declared.plan.Plan.{Plan}
+use Rattle.sa_meaning.specs.Data.{RunData}
 use Rattle.sa_count.specs.declared.report.Report.{Report}
 use Rattle.sa_meaning.specs.Counts.{counts}
 use Rattle.sa_desk.specs.declared.entry.Entry.{Entry}
@@ -25,17 +24,18 @@ pub record IsAsked (since : List Entry) (asker request at : ℕ) : Type 0 where
   pub asks : queued.event ≡ Queued request kind at budget
   pub silent : words asker later ≡ []
 
--- The answer that comes after these entries is about the statement that is on: its report is what the plan of that
--- statement's Begin counts over that Begin's values, after a number of steps that is at least the one at which the request
--- was queued, since that Begin, and at most a quantum more.
-pub record IsShown (terms : Terms) (before : List Entry) (asker request : ℕ) (report : Report) : Type 0 where
+-- The answer that comes after these entries is the desk's own session's, about its statement that is on: its report is what the
+-- plan of that statement's Begin counts over that Begin's tables, after a number of steps that is at least the one at which the
+-- request was queued, since that Begin, and at most a quantum more.
+pub record IsShown (terms : Terms) (before : List Entry) (answer : Entry) (asker request : ℕ) (report : Report) : Type 0 where
+  pub own : answer.actor ≡ terms.desk
   pub number : ℕ
   pub on : IsOn terms number before
   pub plan : Plan
-  pub values : List Value
-  pub has_plan : option_map arc_value on.plan ≡ Some plan
-  pub has_values : option_map arc_value on.values ≡ Some values
-  pub counted : report ≡ counts number plan values report.steps
+  pub tables : RunData
+  pub has_plan : on.plan ≡ Some plan
+  pub has_tables : on.tables ≡ Some tables
+  pub counted : report ≡ counts number plan tables report.steps
   pub at : ℕ
   pub asked : IsAsked on.since asker request at
   pub least : at ≤ report.steps

@@ -1,7 +1,7 @@
 ghost use Rattle.std.specs.Prelude.{◌≡◌, option_map, if◌then◌else◌};
 ghost use Rattle.sa_desk.specs.Serving.{report_of};
 ghost use Rattle.sa_desk.specs.call.End.{run_of, outcome_of, end_answer, stopped, Fits};
-ghost use Rattle.sa_desk.specs.Parts.{steps_in};
+ghost use Rattle.sa_desk.specs.inner.Parts.{steps_in};
 ghost use Rattle.sa_desk.specs.call.Point.{point_answer};
 
 use crate::answer::{Ended, Seen};

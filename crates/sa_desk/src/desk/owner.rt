@@ -1,5 +1,4 @@
 ghost use Rattle.std.specs.Prelude.{◌≡◌, option_map};
-ghost use Rattle.std.specs.Arc.{arc_value};
 ghost use Rattle.sa_desk.specs.Contents.{IsSound, HasNumbers, state, phase};
 ghost use Rattle.sa_desk.specs.call.Begin.{MayBegin, begin_answer, after_begin};
 ghost use Rattle.sa_desk.specs.call.Close.{MayClose, after_close};
@@ -18,13 +17,13 @@ use crate::outcome::Finish;
 use crate::phase::{On, Phase};
 use crate::stamp::Stamp;
 use sa_meaning::Running;
-use sa_plan::Plan;
-use sa_value::{Text, Values};
-use std::sync::Arc;
+use sa_plan::SharedPlan;
+use sa_table::SharedTables;
+use sa_value::Text;
 
 /// What only the desk's own session calls.
 impl Desk {
-    /// Begins a statement, with its plan and the values that it reads where it has one. Gone, where a
+    /// Begins a statement, with its plan and the tables that it reads where it has one. Gone, where a
     /// KILL CONNECTION stands.
     pub fn begin(
         &mut self,
@@ -32,12 +31,14 @@ impl Desk {
         statement: u32,
         text: Text,
         version: u64,
-        plan: Option<Arc<Plan>>,
-        values: Option<Arc<Values>>,
+        plan: Option<SharedPlan>,
+        tables: Option<SharedTables>,
     ) -> Begun
-        requires { MayBegin self.old stamp (Event.Begin statement text version plan values) statement version (option_map arc_value plan) (option_map arc_value values) }
+        requires { MayBegin self.old stamp (Event.Begin statement text version plan tables) statement
+            version plan tables }
         ensures answer { result ≡ begin_answer (state self.old).doomed }
-        ensures desk { self.new ≡ after_begin self.old stamp (Event.Begin statement text version plan values) statement }
+        ensures desk { self.new ≡ after_begin self.old stamp (Event.Begin statement text version plan tables)
+            statement }
         ensures sound { IsSound self.new }
     {
         if self.doomed {
@@ -60,7 +61,7 @@ impl Desk {
             text,
             version,
             plan,
-            values,
+            tables,
         };
         push_entry(&mut self.journal, self.number, stamp, event);
         Begun::Ok
@@ -111,7 +112,8 @@ impl Desk {
         requires end { MayEnd R.progress self.old stamp statement finish }
         requires numbers { HasNumbers stamp }
         ensures answer { result ≡ end_answer (is_killed (phase self.old)) }
-        ensures desk { self.new ≡ after_end self.old stamp statement (run_of R.progress finish) (outcome_of R.progress finish) }
+        ensures desk { self.new ≡ after_end self.old stamp statement (run_of R.progress finish)
+            (outcome_of R.progress finish) }
         ensures sound { IsSound self.new }
     {
         let server = Server {

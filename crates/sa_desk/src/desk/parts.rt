@@ -4,12 +4,12 @@ ghost use Rattle.arrayvec.specs.ArrayVec.{array_vec_len};
 ghost use Rattle.sa_desk.specs.declared.entry.Entry as declared;
 ghost use Rattle.sa_desk.specs.call.Ask.{ask_event};
 ghost use Rattle.sa_desk.specs.After.{dooms};
-ghost use Rattle.sa_desk.specs.Parts.{answer_in, put_last, begun_with, kill_stands, begin_in, killed_in, is_over};
+ghost use Rattle.sa_desk.specs.inner.Parts.{answer_in, put_last, begun_with, kill_stands, begin_in, killed_in, is_over};
 
 use crate::answer::Asked;
 use crate::entry::{Entry, Event, RefusedWhy};
 use crate::phase::{On, Phase};
-use crate::request::{Request, Wait};
+use crate::request::{OpenWait, Request};
 use crate::stamp::Stamp;
 use arrayvec::ArrayVec;
 use sa_ast::{AskKind, KillKind};
@@ -53,7 +53,7 @@ pub fn no_polls(sessions: usize) -> ArrayVec<u64, 16>
 }
 
 /// No open wait for each of so many sessions.
-pub fn no_waits(sessions: usize) -> ArrayVec<Option<Wait>, 16>
+pub fn no_waits(sessions: usize) -> ArrayVec<Option<OpenWait>, 16>
     requires { sessions ≤ 16 }
     ensures { result.items ≡ replicate sessions None }
 {
@@ -67,7 +67,8 @@ pub fn no_waits(sessions: usize) -> ArrayVec<Option<Wait>, 16>
 /// Puts an entry of the caller at the end of the journal, in the room that is reserved.
 pub fn push_entry(journal: &mut Vec<Entry>, desk: u32, stamp: Stamp, event: Event)
     requires { vec_len journal.old < vec_capacity journal.old }
-    ensures entry { let entry : declared.Entry = record { desk = desk; actor = stamp.actor; seq = stamp.seq; turn = stamp.turn; event = event } in
+    ensures entry { let entry : declared.Entry =
+        record { desk = desk; actor = stamp.actor; seq = stamp.seq; turn = stamp.turn; event = event } in
         journal.new.items ≡ journal.old.items ++ entry ∷ [] }
     ensures capacity { vec_capacity journal.new ≡ vec_capacity journal.old }
 {
@@ -85,7 +86,7 @@ pub fn answer_in(phase: Phase) -> Asked
     ensures { result ≡ answer_in phase }
 {
     match phase {
-        Phase::Idle | Phase::Plain(_) => Asked::NotExplainable,
+        Phase::Idle | Phase::Unplanned(_) => Asked::NotExplainable,
         Phase::Planned(_) => Asked::Queued,
         Phase::Closed => Asked::NoSuchThread,
     }
@@ -108,7 +109,7 @@ pub fn begun_with(planned: bool, on: On) -> Phase
     if planned {
         Phase::Planned(on)
     } else {
-        Phase::Plain(on)
+        Phase::Unplanned(on)
     }
 }
 
@@ -117,7 +118,7 @@ pub fn kill_stands(phase: Phase) -> bool
     ensures { result ≡ kill_stands phase }
 {
     match phase {
-        Phase::Plain(on) | Phase::Planned(on) => on.killed,
+        Phase::Unplanned(on) | Phase::Planned(on) => on.killed,
         Phase::Idle | Phase::Closed => false,
     }
 }
@@ -127,7 +128,7 @@ pub fn begin_in(phase: Phase) -> u32
     ensures { result ≡ begin_in phase }
 {
     match phase {
-        Phase::Plain(on) | Phase::Planned(on) => on.begin,
+        Phase::Unplanned(on) | Phase::Planned(on) => on.begin,
         Phase::Idle | Phase::Closed => 0,
     }
 }
@@ -160,7 +161,7 @@ pub fn is_over(phase: Phase) -> bool
 {
     match phase {
         Phase::Closed => true,
-        Phase::Idle | Phase::Plain(_) | Phase::Planned(_) => false,
+        Phase::Idle | Phase::Unplanned(_) | Phase::Planned(_) => false,
     }
 }
 
@@ -169,7 +170,7 @@ pub fn killed_in(phase: Phase) -> Phase
     ensures { result ≡ killed_in phase }
 {
     match phase {
-        Phase::Plain(on) => Phase::Plain(On { killed: true, ..on }),
+        Phase::Unplanned(on) => Phase::Unplanned(On { killed: true, ..on }),
         Phase::Planned(on) => Phase::Planned(On { killed: true, ..on }),
         Phase::Idle | Phase::Closed => phase,
     }

@@ -2,7 +2,7 @@ ghost use Rattle.std.specs.Prelude.{◌≡◌, ◌-◌, ◌≤◌, ◌==◌, sli
 ghost use Rattle.arrayvec.specs.ArrayVec.{array_vec_len};
 ghost use Rattle.sa_desk.specs.After.{without, untaken};
 ghost use Rattle.sa_desk.specs.call.Poll.{reply_to};
-ghost use Rattle.sa_desk.specs.Parts.{AsksOnce, HasOneReply};
+ghost use Rattle.sa_desk.specs.inner.Parts.{AsksOnce, HasOneReply};
 
 use crate::request::{Reply, Request};
 use arrayvec::ArrayVec;
@@ -30,8 +30,8 @@ pub fn take_out(queue: &mut ArrayVec<Request, 16>, session: u32)
     requires { AsksOnce session queue.old.items }
     ensures { queue.new.items ≡ without session queue.old.items }
 {
-    if let Some(place) = request_place(queue, session) {
-        queue.remove(place);
+    if let Some(index) = request_index(queue, session) {
+        queue.remove(index);
     }
 }
 
@@ -42,14 +42,14 @@ pub fn take_reply(replies: &mut ArrayVec<Reply, 16>, session: u32) -> Option<Rep
     ensures others { replies.new.items ≡ untaken session replies.old.items }
     ensures kept { IfNone result (replies.new ≡ replies.old) }
 {
-    match reply_place(replies, session) {
-        Some(place) => Some(replies.remove(place)),
+    match reply_index(replies, session) {
+        Some(index) => Some(replies.remove(index)),
         None => None,
     }
 }
 
 /// Where the session's request is.
-fn request_place(queue: &ArrayVec<Request, 16>, session: u32) -> Option<usize>
+fn request_index(queue: &ArrayVec<Request, 16>, session: u32) -> Option<usize>
     ensures { result ≡ position (λ request. request.asker == session) queue.now.items }
 {
     queue
@@ -59,7 +59,7 @@ fn request_place(queue: &ArrayVec<Request, 16>, session: u32) -> Option<usize>
 }
 
 /// Where the answer to the session's request is.
-fn reply_place(replies: &ArrayVec<Reply, 16>, session: u32) -> Option<usize>
+fn reply_index(replies: &ArrayVec<Reply, 16>, session: u32) -> Option<usize>
     ensures { result ≡ position (λ reply. reply.asker == session) replies.now.items }
 {
     replies

@@ -2,7 +2,7 @@ ghost use Rattle.std.specs.Prelude.{◌≡◌, ◌+◌, ◌<◌, ◌≤◌, ◌^
 ghost use Rattle.std.specs.Vec.{vec_len, vec_capacity};
 ghost use Rattle.arrayvec.specs.ArrayVec.{array_vec_len};
 ghost use Rattle.sa_desk.specs.Contents.{later};
-ghost use Rattle.sa_desk.specs.Parts.{served_by_server, answers_with, served_last, answers_last};
+ghost use Rattle.sa_desk.specs.inner.Parts.{served_by_server, answers_with, served_last, answers_last};
 
 use crate::desk::parts::push_entry;
 use crate::entry::{Entry, Event};
@@ -35,13 +35,13 @@ pub fn serve(
     ensures capacity { vec_capacity journal.new ≡ vec_capacity journal.old }
     ensures replies { replies.new.items ≡ replies.old.items ++ answers_with report.now server.begin queue.now }
 {
-    for (place, request) in queue.iter().enumerate() {
+    for (index, request) in queue.iter().enumerate() {
         let event = Event::Served {
             asker: request.asker,
             request: request.request,
             report: report.copy(),
         };
-        push_entry(journal, server.desk, later(server.stamp, place), event);
+        push_entry(journal, server.desk, later(server.stamp, index), event);
         replies.push(Reply {
             asker: request.asker,
             request: request.request,
@@ -62,9 +62,11 @@ pub fn serve_last(
     requires journal { vec_len journal.old + length queue.now ≤ vec_capacity journal.old }
     requires replies { array_vec_len replies.old + length queue.now ≤ 16 }
     requires numbers { server.stamp.seq + length queue.now ≤ 2 ^ 32 }
-    ensures journal { journal.new.items ≡ journal.old.items ++ served_last server (option_map (λ report. report.now) last.entry) queue.now }
+    ensures journal { journal.new.items ≡ journal.old.items ++ served_last server
+        (option_map (λ report. report.now) last.entry) queue.now }
     ensures capacity { vec_capacity journal.new ≡ vec_capacity journal.old }
-    ensures replies { replies.new.items ≡ replies.old.items ++ answers_last server (option_map (λ report. report.now) last.entry) queue.now }
+    ensures replies { replies.new.items ≡ replies.old.items ++ answers_last server
+        (option_map (λ report. report.now) last.entry) queue.now }
 {
     if let Some(report) = last {
         serve(journal, replies, queue, server, report);

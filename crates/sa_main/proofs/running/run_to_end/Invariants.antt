@@ -1,5 +1,5 @@
 use Rattle.std.proofs.Common.{◌≡◌, ◌-◌, length}
-use Rattle.sa_exec.specs.Progress.{HasNext, all_items}
+use Rattle.sa_scan.specs.Progress.{HasNext, all_items}
 use Rattle.sa_main.proofs.running.run_to_end.Given as goal
 
 abbrev pub invariant-loop-run : goal.invariant-loop-run

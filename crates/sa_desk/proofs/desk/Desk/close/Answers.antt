@@ -1,6 +1,6 @@
 use Rattle.std.proofs.Common.{sym, subst}
 use Rattle.sa_desk.specs.declared.entry.Event.TheVariants.{Close}
-use Rattle.sa_desk.specs.Desk.{contents_of}
+use Rattle.sa_desk.specs.inner.Desk.{contents_of}
 use Rattle.sa_desk.specs.call.Close.{MayClose}
 use Rattle.sa_desk.proofs.Grown.{IsJournal-push}
 use Rattle.sa_desk.proofs.Room.{entry_fits}

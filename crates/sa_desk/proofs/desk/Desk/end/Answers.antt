@@ -3,8 +3,8 @@ use Rattle.sa_desk.specs.declared.desk.Desk.TheInside.{Inside}
 use Rattle.sa_desk.specs.declared.outcome.Outcome.TheVariants.{Interrupted}
 use Rattle.sa_desk.specs.declared.phase.Phase.TheVariants.{Idle}
 use Rattle.sa_desk.specs.Contents.{phase, later}
-use Rattle.sa_desk.specs.Desk.{contents_of}
-use Rattle.sa_desk.specs.Parts.{steps_in}
+use Rattle.sa_desk.specs.inner.Desk.{contents_of}
+use Rattle.sa_desk.specs.inner.Parts.{steps_in}
 use Rattle.sa_desk.specs.Serving.{report_of, is_killed}
 use Rattle.sa_desk.specs.call.End.{run_of, outcome_of, end_answer, end_entries, after_end}
 use Rattle.sa_desk.proofs.Room.{answers_fit}

@@ -1,8 +1,8 @@
 use Rattle.std.proofs.Common.{◌≡◌, sym, subst, ap, ◌∙◌}
 use Rattle.sa_desk.specs.declared.answer.Killed.TheVariants as answer
 use Rattle.sa_desk.specs.Contents.{phase}
-use Rattle.sa_desk.specs.Desk.{contents_of}
-use Rattle.sa_desk.specs.Parts.{is_over}
+use Rattle.sa_desk.specs.inner.Desk.{contents_of}
+use Rattle.sa_desk.specs.inner.Parts.{is_over}
 use Rattle.sa_desk.specs.call.Kill.{MayKill, kill_answer}
 use Rattle.sa_desk.proofs.Room.{entry_fits}
 use Rattle.sa_desk.proofs.step.Kill.{answer-over, answer-on, kill-journal, over-ready, stands-ready}

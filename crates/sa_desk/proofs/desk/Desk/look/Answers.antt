@@ -1,8 +1,8 @@
 use Rattle.std.proofs.Common.{◌≡◌, ◌-◌, [], ◌∷◌, ◌++◌, map, slice_set, sym, subst, ap, ◌∙◌, refl}
 use Rattle.std.proofs.lemmas.List.{append-nil}
 use Rattle.sa_desk.specs.Contents.{entry_by}
-use Rattle.sa_desk.specs.Desk.{contents_of}
-use Rattle.sa_desk.specs.Parts.{event_list}
+use Rattle.sa_desk.specs.inner.Desk.{contents_of}
+use Rattle.sa_desk.specs.inner.Parts.{event_list}
 use Rattle.sa_desk.specs.call.Look.{MayLook, looked, looks_before, look_events, wait_after}
 use Rattle.sa_desk.proofs.Grown.{IsJournal}
 use Rattle.sa_desk.proofs.Room.{entry_fits}

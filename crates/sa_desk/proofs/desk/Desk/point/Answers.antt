@@ -2,8 +2,8 @@ use Rattle.std.proofs.Common.{ℕ, ◌≡◌, List, ◌++◌, sym, subst, ap, �
 use Rattle.sa_count.specs.declared.report.Report.{Report}
 use Rattle.sa_desk.specs.declared.desk.Desk.TheInside.{Inside}
 use Rattle.sa_desk.specs.declared.request.Request.{Request}
-use Rattle.sa_desk.specs.Desk.{contents_of}
-use Rattle.sa_desk.specs.Parts.{answers_with, served_from, begin_in}
+use Rattle.sa_desk.specs.inner.Desk.{contents_of}
+use Rattle.sa_desk.specs.inner.Parts.{answers_with, served_from, begin_in}
 use Rattle.sa_desk.specs.Serving.{report_of}
 use Rattle.sa_desk.specs.call.Point.{MayPoint, after_point}
 use Rattle.sa_desk.proofs.Room.{answers_fit}

@@ -3,7 +3,7 @@ use Rattle.std.proofs.lemmas.List.Elements.{All-get_or}
 use Rattle.sa_desk.specs.declared.desk.Desk.TheInside.{Inside}
 use Rattle.sa_desk.specs.declared.entry.Event.TheVariants.{Taken, Spent}
 use Rattle.sa_desk.specs.Contents.{state, phase, HasRoom}
-use Rattle.sa_desk.specs.Desk.{contents_of}
+use Rattle.sa_desk.specs.inner.Desk.{contents_of}
 use Rattle.sa_desk.specs.call.Poll.{MayPoll, reply_to}
 use Rattle.sa_desk.proofs.Grown.{IsJournal-push}
 use Rattle.sa_desk.proofs.Room.{entry_fits}

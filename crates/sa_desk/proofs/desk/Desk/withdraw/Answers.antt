@@ -2,7 +2,7 @@ use Rattle.std.proofs.Common.{◌≡◌, Some, None, IfNone, sym, subst, ap, ◌
 use Rattle.sa_desk.specs.declared.desk.Desk.TheInside.{Inside}
 use Rattle.sa_desk.specs.declared.entry.Event.TheVariants.{Taken, Withdrawn}
 use Rattle.sa_desk.specs.Contents.{state, phase}
-use Rattle.sa_desk.specs.Desk.{contents_of}
+use Rattle.sa_desk.specs.inner.Desk.{contents_of}
 use Rattle.sa_desk.specs.call.Poll.{reply_to}
 use Rattle.sa_desk.specs.call.Withdraw.{MayWithdraw}
 use Rattle.sa_desk.proofs.Grown.{IsJournal-push}

@@ -1,11 +1,12 @@
-use Rattle.sa_desk.specs.Plain.{made_of}
+use Rattle.sa_desk.specs.Plain.{desk_at}
+use Rattle.sa_desk.specs.inner.NextPlain.{made_of}
 use Rattle.std.proofs.Common.{◌≡◌, ℕ, ◌+◌, ◌-◌, ◌*◌, ◌≤◌, ◌^◌, List, slice_set, length-set, arith}
 use Rattle.sa_meaning.specs.Progress.{Progress}
-use Rattle.sa_desk.specs.PlainDesks.{plain_of}
+use Rattle.sa_desk.specs.inner.PlainDesks.{plain_of}
 use Rattle.sa_desk.specs.Serving.{served_entries}
 use Rattle.sa_desk.specs.call.Point.{MayPoint, after_point}
-use Rattle.sa_desk.proofs.CallLeft.{point-left}
-use Rattle.sa_desk.proofs.Called.{Takes, Leaves, IsDone, numbers_before, holds_taken, HasNumbers-taken, numbers_after, done_as}
+use Rattle.sa_desk.proofs.CallLeft.{point-left, stamp_of}
+use Rattle.sa_desk.proofs.Called.{Takes, Calls, IsDone, numbers_before, holds_taken, HasNumbers-taken, numbers_after, done_as}
 use Rattle.sa_desk.proofs.plain.PlainDesksDesks.point.Given as Given
 use Rattle.sa_desk.proofs.plain.PlainDesksDesks.point.Goals as goal
 use Rattle.sa_desk.proofs.plain.PlainDesksDesks.point.Goals.{After-index_mut-at, After-len}
@@ -15,7 +16,7 @@ next_stamp-stamp-requires-clause-numbers g c = omega (arith, numbers_before (pla
 
 -- what the code takes
 takes : (g : Given.Over) (c : goal.After-index_mut-at g) → Takes (plain_of c.self.inside) c.args.desk c.args.me c.index_mut-at.result.now c.next_stamp-stamp.result
-takes g c = record { place = c.place_of.result; place_is = c.place_of.ensures; at_is = c.index_mut-at.ensures.value; stamp_is = c.next_stamp-stamp.ensures }
+takes g c = record { index = c.index_of.result; index_is = c.index_of.ensures; at_is = c.index_mut-at.ensures.value; stamp_is = c.next_stamp-stamp.ensures }
 
 pub point-answer-requires-clause-point : goal.point-answer-requires-clause-point
 point-answer-requires-clause-point g c =
@@ -32,30 +33,30 @@ module _ (g : Given.Over) (c : goal.After-len g) where
   abbrev run : Progress
   run = g.R.Running.progress c.args.run.now
 
-  abbrev leaves : Leaves (plain_of c.self.inside) c.args.desk c.args.me (λ at stamp. after_point at stamp run) c.index_mut-at.result.now c.next_stamp-stamp.result c.point-answer.new.self c.len-before.result c.len.result
-  leaves = record {
-    takes = record { place = c.place_of.result; place_is = c.place_of.ensures; at_is = c.index_mut-at.ensures.value; stamp_is = c.next_stamp-stamp.ensures };
+  abbrev calls : Calls (plain_of c.self.inside) c.args.desk c.args.me (λ at stamp. after_point at stamp run) c.index_mut-at.result.now c.next_stamp-stamp.result c.point-answer.new.self c.len-before.result c.len.result
+  calls = record {
+    takes = record { index = c.index_of.result; index_is = c.index_of.ensures; at_is = c.index_mut-at.ensures.value; stamp_is = c.next_stamp-stamp.ensures };
     new_is = c.point-answer.ensures.desk;
     sound = c.point-answer.ensures.sound;
-    had_is = c.len-before.ensures;
-    has_is = c.len.ensures;
+    had_is = c.len-before.ensures.count;
+    has_is = c.len.ensures.count;
   }
 
   numbers : made_of (plain_of c.self.inside) c.args.me.actor + (c.len.result - c.len-before.result) ≤ 16 * 2 ^ 20
   numbers =
       numbers_after (plain_of c.self.inside) c.args.self.now c.self.view_is c.self.invariant.plain c.args.desk c.args.me c.requires.allowed
       (λ at stamp. served_entries at stamp run) (λ at stamp. after_point at stamp run)
-      (λ is. point-left c.args.self.now is c.args.desk c.args.me c.requires.allowed run c.requires.point.own)
-      c.index_mut-at.result.now c.next_stamp-stamp.result c.point-answer.new.self c.len-before.result c.len.result leaves
+      (point-left (desk_at c.args.self.now c.args.desk) (stamp_of c.args.self.now c.args.me) c.requires.point.own run)
+      c.index_mut-at.result.now c.next_stamp-stamp.result c.point-answer.new.self c.len-before.result c.len.result calls
 
   done : (made : List ℕ) → made ≡ slice_set c.self.inside.made.items (c.args.me.actor - 1) (made_of (plain_of c.self.inside) c.args.me.actor + (c.len.result - c.len-before.result))
       → IsDone c.args.self.now c.args.desk c.args.me (λ at stamp. served_entries at stamp run) (λ at stamp. after_point at stamp run)
-      (record { desks = slice_set c.self.inside.desks.items c.place_of.result c.point-answer.new.self; made = made })
+      (record { desks = slice_set c.self.inside.desks.items c.index_of.result c.point-answer.new.self; made = made })
   done =
       done_as (plain_of c.self.inside) c.args.self.now c.self.view_is c.self.invariant.plain c.args.desk c.args.me c.requires.allowed
       (λ at stamp. served_entries at stamp run) (λ at stamp. after_point at stamp run)
-      (λ is. point-left c.args.self.now is c.args.desk c.args.me c.requires.allowed run c.requires.point.own)
-      c.index_mut-at.result.now c.next_stamp-stamp.result c.point-answer.new.self c.len-before.result c.len.result leaves
+      (point-left (desk_at c.args.self.now c.args.desk) (stamp_of c.args.self.now c.args.me) c.requires.point.own run)
+      c.index_mut-at.result.now c.next_stamp-stamp.result c.point-answer.new.self c.len-before.result c.len.result calls
 
 pub count-requires-clause-numbers : goal.count-requires-clause-numbers
 count-requires-clause-numbers g c = omega (arith, numbers g (goal.at.count-requires-clause-numbers g c).After-len)
@@ -64,11 +65,11 @@ pub invariant_of-self : goal.invariant_of-self
 invariant_of-self g c = record {
   plain = (done g (goal.at.invariant_of-self g c).After-len c.count.new.made.items c.count.ensures).kept;
   unused = c.self.invariant.unused;
-  room = rw (length-set c.self.inside.desks.items c.place_of.result c.point-answer.new.self) c.self.invariant.room;
+  room = rw (length-set c.self.inside.desks.items c.index_of.result c.point-answer.new.self) c.self.invariant.room;
 }
 
 pub returns-clause-call : goal.returns-clause-call
 returns-clause-call g c = (done g (goal.at.returns-clause-call g c).After-len c.count.new.made.items c.count.ensures).call
 
-pub returns-clause-left : goal.returns-clause-left
-returns-clause-left g c = (done g (goal.at.returns-clause-left g c).After-len c.count.new.made.items c.count.ensures).is
+pub returns-clause-same : goal.returns-clause-same
+returns-clause-same g c = (done g (goal.at.returns-clause-same g c).After-len c.count.new.made.items c.count.ensures).same

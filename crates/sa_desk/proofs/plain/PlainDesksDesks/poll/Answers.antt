@@ -1,8 +1,9 @@
+use Rattle.sa_desk.specs.Plain.{desk_at}
 use Rattle.std.proofs.Common.{slice_set, length-set, arith}
-use Rattle.sa_desk.specs.PlainDesks.{plain_of}
+use Rattle.sa_desk.specs.inner.PlainDesks.{plain_of}
 use Rattle.sa_desk.specs.call.Poll.{poll_entries, after_poll}
-use Rattle.sa_desk.proofs.CallLeft.{poll-left}
-use Rattle.sa_desk.proofs.Called.{Leaves, IsDone, numbers_before, done_as}
+use Rattle.sa_desk.proofs.CallLeft.{poll-left, stamp_of}
+use Rattle.sa_desk.proofs.Called.{Calls, IsDone, numbers_before, done_as}
 use Rattle.sa_desk.proofs.plain.PlainDesksDesks.poll.Goals as goal
 
 pub next_stamp-stamp-requires-clause-numbers : goal.next_stamp-stamp-requires-clause-numbers
@@ -10,32 +11,32 @@ next_stamp-stamp-requires-clause-numbers c = omega (arith, numbers_before (plain
 
 -- what the code takes and leaves, and so what is done
 module _ (c : goal.After-count) where
-  abbrev leaves : Leaves (plain_of c.self.inside) c.args.desk c.args.me (λ at stamp. after_poll at stamp c.args.statement) c.index_mut-at.result.now c.next_stamp-stamp.result c.poll-answer.new.self c.len-before.result c.len.result
-  leaves = record {
-    takes = record { place = c.place_of.result; place_is = c.place_of.ensures; at_is = c.index_mut-at.ensures.value; stamp_is = c.next_stamp-stamp.ensures };
+  abbrev calls : Calls (plain_of c.self.inside) c.args.desk c.args.me (λ at stamp. after_poll at stamp c.args.statement) c.index_mut-at.result.now c.next_stamp-stamp.result c.poll-answer.new.self c.len-before.result c.len.result
+  calls = record {
+    takes = record { index = c.index_of.result; index_is = c.index_of.ensures; at_is = c.index_mut-at.ensures.value; stamp_is = c.next_stamp-stamp.ensures };
     new_is = c.poll-answer.ensures.desk;
     sound = c.poll-answer.ensures.sound;
-    had_is = c.len-before.ensures;
-    has_is = c.len.ensures;
+    had_is = c.len-before.ensures.count;
+    has_is = c.len.ensures.count;
   }
 
   done : IsDone c.args.self.now c.args.desk c.args.me (λ at stamp. poll_entries at stamp c.args.statement) (λ at stamp. after_poll at stamp c.args.statement)
-      (record { desks = slice_set c.self.inside.desks.items c.place_of.result c.poll-answer.new.self; made = c.count.new.made.items })
+      (record { desks = slice_set c.self.inside.desks.items c.index_of.result c.poll-answer.new.self; made = c.count.new.made.items })
   done =
       done_as (plain_of c.self.inside) c.args.self.now c.self.view_is c.self.invariant.plain c.args.desk c.args.me c.requires.allowed
       (λ at stamp. poll_entries at stamp c.args.statement) (λ at stamp. after_poll at stamp c.args.statement)
-      (λ is. poll-left c.args.self.now is c.args.desk c.args.me c.requires.allowed c.args.statement)
-      c.index_mut-at.result.now c.next_stamp-stamp.result c.poll-answer.new.self c.len-before.result c.len.result leaves c.count.new.made.items c.count.ensures
+      (poll-left (desk_at c.args.self.now c.args.desk) (stamp_of c.args.self.now c.args.me) c.requires.poll.caller c.args.statement)
+      c.index_mut-at.result.now c.next_stamp-stamp.result c.poll-answer.new.self c.len-before.result c.len.result calls c.count.new.made.items c.count.ensures
 
 pub invariant_of-self : goal.invariant_of-self
 invariant_of-self c = record {
   plain = (done c).kept;
   unused = c.self.invariant.unused;
-  room = rw (length-set c.self.inside.desks.items c.place_of.result c.poll-answer.new.self) c.self.invariant.room;
+  room = rw (length-set c.self.inside.desks.items c.index_of.result c.poll-answer.new.self) c.self.invariant.room;
 }
 
 pub returns-clause-call : goal.returns-clause-call
 returns-clause-call c = (done c).call
 
-pub returns-clause-left : goal.returns-clause-left
-returns-clause-left c = (done c).is
+pub returns-clause-same : goal.returns-clause-same
+returns-clause-same c = (done c).same

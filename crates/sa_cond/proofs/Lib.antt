@@ -1,0 +1,12 @@
+pub mod Products
+pub mod Forms
+pub mod IntervalLemmas
+pub mod Lists
+pub mod Arithmetic
+pub mod Comparisons
+pub mod CondForms
+pub mod Testing
+pub mod Truths
+pub mod EndsLemmas
+pub mod StaticIntervals
+pub mod Deciding

@@ -1,0 +1,4 @@
+pub mod Desk
+pub mod Parts
+pub mod PlainDesks
+pub mod NextPlain

@@ -1,0 +1,6 @@
+pub mod Course
+pub mod Between
+pub mod RunEnds
+pub mod Statement
+pub mod SoFar
+pub mod Turn

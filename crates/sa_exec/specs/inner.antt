@@ -1,0 +1,4 @@
+pub mod Chosen
+pub mod Place
+pub mod Ready
+pub mod Sound

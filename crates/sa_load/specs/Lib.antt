@@ -1,0 +1,5 @@
+pub mod Csv
+pub mod Field
+pub mod Record
+pub mod Load
+pub mod inner

@@ -1,0 +1,4 @@
+pub mod Refusal
+pub mod FieldParts
+pub mod RowParts
+pub mod Reading

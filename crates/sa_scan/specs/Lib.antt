@@ -1,0 +1,4 @@
+pub mod Item
+pub mod Progress
+pub mod LaidOut
+pub mod Run

@@ -1,0 +1,4 @@
+use Rattle.sa_table.proofs.tables.Tables.find.Goals as goal
+
+pub unreachable-requires : goal.unreachable-requires
+unreachable-requires c = ?

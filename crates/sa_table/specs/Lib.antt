@@ -1,0 +1,4 @@
+pub mod Table
+pub mod Create
+pub mod AddRow
+pub mod Sound

@@ -1,0 +1,16 @@
+//! Tables in memory: their definitions, their rows, and their unique keys.
+//!
+//! Contracts see tables as a list of definitions with their rows, and a row as a list of values. How
+//! the cells lie in memory is nobody's business but this crate's.
+#![tactic(auto)]
+
+mod def;
+mod fault;
+mod shared;
+mod stored;
+mod tables;
+
+pub use def::{ColumnDef, ColumnDefs, ColumnKind, KeyDef, KeyDefs, Parts, TableDef};
+pub use fault::{RowFault, TableFault};
+pub use shared::SharedTables;
+pub use tables::Tables;
