@@ -15,7 +15,7 @@ use Rattle.sa_cond.specs.Choice.{Choice}
 use Rattle.sa_cond.specs.Cited.{expr_names}
 use Rattle.sa_cond.specs.Condition.{is_null}
 use Rattle.sa_cond.specs.Expression.{number_of, number_or_null, applied, both, expr_value}
-use Rattle.sa_cond.specs.Interval.{CellKinds, Interval, ExprKind, number, sum, text, null, faulty, least_bigint, greatest_bigint, is_within, number_within, interval_of, reached, of_both, negated, added, subtracted, multiplied, kind_of_literal, expr_kind}
+use Rattle.sa_cond.specs.Interval.{CellKinds, Interval, ExprKind, number, sum, text, null, faulty, least_bigint, greatest_bigint, is_bigint, is_within, number_within, interval_of, reached, of_both, negated, added, subtracted, multiplied, kind_of_literal, expr_kind}
 use Rattle.sa_cond.specs.Typed.{is_proper, can_compare}
 use Rattle.sa_simplify.specs.Node.{of_node, literal_of}
 use Rattle.sa_simplify.specs.inner.Arithmetic.{IsProper, NegativeFits, ResultFits, number_in}
@@ -398,7 +398,8 @@ folded_refines = Refines-fold node_folded_within node_refines
 
 within_fits : (z : ℤ) → is_within (point z) ≡ true → FitsSigned w64 z
 within_fits z within =
-    let both = both_true (int_le least_bigint z) (int_le z greatest_bigint) within in
+    let bigint = both_true (is_bigint z) (is_bigint z) within in
+    let both = both_true (int_le least_bigint z) (int_le z greatest_bigint) bigint.0 in
     record { sfits = first_of (grind (arith, ints), omega (arith, ints)) }
 
 proper_fits : (z : ℤ) (b : Bool) → is_within (point z) ≡ b → is_proper (if b then number (point z) else faulty) ≡ true → FitsSigned w64 z
