@@ -1,0 +1,24 @@
+-- The table that the fields of a stored one stand for.
+use Rattle.std.specs.Prelude.{◌≡◌, ℕ, ◌<◌, ◌≤◌, List, [], length, false, AllPairs, All, vec_len, slice_index_or}
+use Rattle.sa_table.specs.declared.def.TableDef.{TableDef}
+use Rattle.sa_table.specs.declared.stored.StoredTable.TheInside.{Inside}
+use Rattle.sa_table.specs.Table.{Table}
+use Rattle.sa_table.specs.Sound.{IsSoundTable, IsKey}
+use Rattle.sa_table.specs.inner.Store.{rows_in, Fills, HoldKinds}
+use Rattle.sa_table.specs.inner.Keys.{AreIndexed}
+
+abbrev pub table_in : Inside → Table
+table_in table = record { def = table.def; rows = rows_in table.store }
+
+-- The table is sound, its columns are filled with values of their kinds, and its unique keys are indexed.
+pub record IsStored (table : Inside) : Type 0 where
+  pub sound : IsSoundTable (table_in table)
+  pub kinds : HoldKinds table.def.columns table.store.columns.items
+  pub filled : Fills table.store
+  pub indexed : AreIndexed (rows_in table.store) table.def.keys table.indexes.items
+
+-- A definition keeps its limits.
+pub record IsDefinition (def : TableDef) : Type 0 where
+  pub few_columns : length def.columns ≤ 32
+  pub few_keys : length def.keys ≤ 8
+  pub keys : All (IsKey def.columns) def.keys
