@@ -1,1 +1,5 @@
 pub mod CellsLemmas
+pub mod FirstLemmas
+pub mod AlikeLemmas
+pub mod ColumnFaultLemmas
+pub mod RaisedLemmas

@@ -1,5 +1,6 @@
-ghost use Rattle.std.specs.Prelude.{◌≡◌, ◌<◌, ◌≤◌, ◌≤ℤ◌, length, ℤ, Option};
-ghost use Rattle.sa_table.specs.AddRow.{least_number, greatest_number, number_faults, text_faults, value_faults, column_faults};
+ghost use Rattle.std.specs.Prelude.{◌≡◌, ◌≤◌, ◌||◌, length, nat_lt};
+ghost use Rattle.std.specs.Str.{chars};
+ghost use Rattle.sa_table.specs.AddRow.{number_faults, text_faults, value_faults, column_faults};
 ghost use Rattle.sa_table.specs.inner.First.{first};
 
 use crate::def::{ColumnDef, ColumnKind};
@@ -31,7 +32,7 @@ fn text_fault(column: u32, kind: ColumnKind, text: &str) -> Option<RowFault>
 {
     match kind {
         ColumnKind::VarChar(characters) => {
-            if text.len() > LONGEST_TEXT || text.chars().count() > characters as usize {
+            if is_too_long(text, characters as usize) {
                 Some(RowFault::TooLong { column })
             } else {
                 None
@@ -39,6 +40,18 @@ fn text_fault(column: u32, kind: ColumnKind, text: &str) -> Option<RowFault>
         }
         ColumnKind::Int | ColumnKind::BigInt => Some(RowFault::TypeMismatch { column }),
     }
+}
+
+fn is_too_long(text: &str, most: usize) -> bool
+    ensures { result ≡ (nat_lt 255 (length text.now) || nat_lt most (length (chars text.now))) }
+{
+    text.len() > LONGEST_TEXT || character_count(text) > most
+}
+
+fn character_count(text: &str) -> usize
+    ensures { result ≡ length (chars text.now) }
+{
+    text.chars().count()
 }
 
 /// The fault of a value in a column.
