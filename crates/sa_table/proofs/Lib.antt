@@ -3,3 +3,4 @@ pub mod FirstLemmas
 pub mod AlikeLemmas
 pub mod ColumnFaultLemmas
 pub mod RaisedLemmas
+pub mod StoreLemmas

@@ -10,6 +10,7 @@ use crate::def::ColumnDef;
 use sa_value::{OutOfMemory, Value, ValueRef, order_of};
 use std::alloc::Global;
 use std::cmp::Ordering;
+use std::mem;
 
 /// The rows of a table, column by column.
 #[derive(Debug, Drop)]
@@ -77,7 +78,7 @@ impl Store {
     }
 
     /// Puts a row at the end.
-    pub(crate) fn push(&mut self, alloc: Global, row: Vec<Value>)
+    pub(crate) fn push(&mut self, alloc: Global, mut row: Vec<Value>)
         requires filled { Fills self.old }
         requires few { self.old.count < 1000000 }
         requires ranged { All IsRanged row.items }
@@ -85,9 +86,11 @@ impl Store {
         ensures rows { rows_in self.new ≡ rows_in self.old ++ held_row self.old.columns.items row.items ∷ [] }
         ensures filled { Fills self.new }
         ensures kinds { SameKinds self.old self.new }
+        ensures count { self.new.count ≡ self.old.count + 1 }
     {
-        for (index, value) in row.into_iter().enumerate() {
-            self.columns[index].push(alloc, value);
+        for column in 0..self.columns.len() {
+            let value = mem::replace(&mut row[column], Value::Null);
+            self.columns[column].push(alloc, value);
         }
         self.count += 1;
     }

@@ -44,3 +44,8 @@ SameKinds old new = (k : ℕ) (column : Column) (kind : ColumnKind) → k < vec_
 pub record HoldKinds (defs : List ColumnDef) (columns : List Column) : Type 0 where
   pub wide : length columns ≡ length defs
   pub each : (k : ℕ) (def : ColumnDef) (column : Column) → k < length defs → HoldsKind (slice_index_or defs k def).kind (slice_index_or columns k column)
+
+-- A column has a value more, and holds what it could hold.
+pub record TakesValue (old new : Column) (value : Value) : Type 0 where
+  pub values : values_in new ≡ values_in old ++ held_in old value ∷ []
+  pub kinds : (kind : ColumnKind) → HoldsKind kind old → HoldsKind kind new
