@@ -4,3 +4,6 @@ pub mod AlikeLemmas
 pub mod ColumnFaultLemmas
 pub mod RaisedLemmas
 pub mod StoreLemmas
+pub mod TupleLemmas
+pub mod IndexLemmas
+pub mod KeyFaultLemmas

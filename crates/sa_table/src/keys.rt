@@ -26,12 +26,14 @@ pub(crate) fn is_unique(key: &KeyDef) -> bool
 
 /// The row that has the same values in a unique key, none of them NULL.
 fn equal_row(store: &Store, key: &KeyDef, index: &Index, row: &[Value]) -> Option<u32>
+    requires unique { is_unique key.now ≡ true }
     requires searchable { IsSearchable store.now key.now row.now }
     requires indexed { IsIndexed (rows_in store.now) key.now index.now }
     ensures { result ≡ position (collides key.now row.now) (rows_in store.now) }
 {
     let parts = key.parts.as_slice();
-    let mut bound = index.last(digest_of(parts, row)?);
+    let digest = digest_of(parts, row)?;
+    let mut bound = index.last(digest);
     while bound > 0 {
         let other = bound - 1;
         if store.has_equal(parts, row, other) {

@@ -1,5 +1,5 @@
 -- How an index finds the rows of a key.
-use Rattle.std.specs.Prelude.{◌≡◌, ◌≢◌, ℕ, ◌<◌, ◌≤◌, List, [], length, Bool, true, All, Option, Some, slice_index, slice_index_or, vec_len}
+use Rattle.std.specs.Prelude.{◌≡◌, ◌≢◌, ℕ, ◌-◌, ◌<◌, ◌≤◌, List, [], length, Bool, true, All, Option, Some, slice_index, slice_index_or, vec_len}
 use Rattle.sa_value.specs.declared.value.Value.{Value}
 use Rattle.sa_table.specs.declared.def.KeyDef.{KeyDef}
 use Rattle.sa_table.specs.declared.index.Index.{Index}
@@ -15,16 +15,17 @@ use Rattle.sa_table.specs.inner.Store.{rows_in, Fills}
 abbrev pub row_digest : List ℕ → List (List Value) → ℕ → Option ℕ
 row_digest parts rows row = digest_of (key_tuple parts (slice_index_or rows row []))
 
--- The rows from one number up to another have other digests.
-pub record HaveOthers (parts : List ℕ) (rows : List (List Value)) (digest : ℕ) (from to : ℕ) : Type 0 where
-  pub from_to : from ≤ to
-  pub others : (row : ℕ) → from ≤ row → row < to → row_digest parts rows row ≢ Some digest
+-- The last row with a digest below a number: what is given is the number after it, or 0 where there is none.
+pub record IsAfterLast (parts : List ℕ) (rows : List (List Value)) (digest : ℕ) (below given : ℕ) : Type 0 where
+  pub within : given ≤ below
+  pub last : 0 < given → row_digest parts rows (given - 1) ≡ Some digest
+  pub others : (row : ℕ) → given ≤ row → row < below → row_digest parts rows row ≢ Some digest
 
 -- Each digest leads to its last row, and each row to the one before it with its digest.
 pub record IsIndexed (rows : List (List Value)) (key : KeyDef) (index : Index) : Type 0 where
   pub before_all : vec_len index.before ≡ length rows
-  pub last : (digest : ℕ) → HaveOthers key.parts rows digest (bound_in index digest) (length rows)
-  pub before : (row : ℕ) (digest : ℕ) → row < length rows → row_digest key.parts rows row ≡ Some digest → HaveOthers key.parts rows digest (slice_index index.before.items row) row
+  pub last : (digest : ℕ) → IsAfterLast key.parts rows digest (length rows) (bound_in index digest)
+  pub before : (row : ℕ) (digest : ℕ) → row < length rows → row_digest key.parts rows row ≡ Some digest → IsAfterLast key.parts rows digest row (slice_index index.before.items row)
 
 -- Each unique key has its index.
 pub record AreIndexed (rows : List (List Value)) (keys : List KeyDef) (indexes : List Index) : Type 0 where
