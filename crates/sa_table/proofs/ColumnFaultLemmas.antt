@@ -11,20 +11,20 @@ use Rattle.sa_table.specs.AddRow.{value_faults}
 use Rattle.sa_table.specs.inner.First.{first}
 use Rattle.sa_table.proofs.FirstLemmas.{first_here, first_later}
 
-abbrev faults_at : ℕ × (ColumnDef × Value) → List RowFault
+abbrev pub faults_at : ℕ × (ColumnDef × Value) → List RowFault
 faults_at numbered = value_faults numbered.0 numbered.1.0 numbered.1.1
 
-abbrev numbered_values : List ColumnDef → List Value → List (ℕ × (ColumnDef × Value))
+abbrev pub numbered_values : List ColumnDef → List Value → List (ℕ × (ColumnDef × Value))
 numbered_values columns row = enumerate_from 0 (zip columns row)
 
 -- the faults from one column on
 abbrev pub faults_from : List ColumnDef → List Value → ℕ → List RowFault
 faults_from columns row column = flat_map faults_at (drop column (numbered_values columns row))
 
-numbered_length : (columns : List ColumnDef) (row : List Value) → length row ≡ length columns → length (numbered_values columns row) ≡ length columns
+pub numbered_length : (columns : List ColumnDef) (row : List Value) → length row ≡ length columns → length (numbered_values columns row) ≡ length columns
 numbered_length columns row e = omega (arith, length-enumerate_from 0 (zip columns row), length-zip columns row)
 
-numbered_at : (columns : List ColumnDef) (row : List Value) (i : ℕ) (def : ColumnDef) (value : Value) → length row ≡ length columns → i < length columns → get_or (numbered_values columns row) i (0, (def, value)) ≡ (i, (get_or columns i def, get_or row i value))
+pub numbered_at : (columns : List ColumnDef) (row : List Value) (i : ℕ) (def : ColumnDef) (value : Value) → length row ≡ length columns → i < length columns → get_or (numbered_values columns row) i (0, (def, value)) ≡ (i, (get_or columns i def, get_or row i value))
 numbered_at columns row i def value e h =
     get_or-enumerate_from 0 (zip columns row) i (0, (def, value)) (omega (arith, length-zip columns row))
     ∙ ap (λ number. (number, get_or (zip columns row) i (def, value))) (zero-add i)

@@ -1,5 +1,5 @@
 -- The first of lists that are joined, as a loop goes over them.
-use Rattle.std.proofs.Common.{◌≡◌, ℕ, ◌+◌, ◌<◌, List, [], ◌∷◌, ◌++◌, length, get_or, drop, Bool, true, false, cond, Option, Some, None, refl, sym, ap, ◌∙◌}
+use Rattle.std.proofs.Common.{◌≡◌, ℕ, ◌+◌, ◌<◌, List, [], ◌∷◌, ◌++◌, length, get_or, drop, Bool, true, false, cond, Option, Some, None, zero, suc, refl, sym, ap, ◌∙◌, arith}
 use Rattle.std.proofs.lemmas.List.{at_drop_more}
 use Rattle.std.specs.List.{flat_map, filter}
 use Rattle.sa_table.specs.inner.First.{first}
@@ -25,3 +25,21 @@ flat_map_cond f x xs false = refl
 pub flat_map_filter : {A B : Type 0} (p : A → Bool) (f : A → List B) (xs : List A) → flat_map f (filter p xs) ≡ flat_map (λ x. cond (p x) (f x) []) xs
 flat_map_filter p f [] = refl
 flat_map_filter p f (x ∷ xs) = flat_map_cond f x (filter p xs) (p x) ∙ ap (λ rest. cond (p x) (f x) [] ++ rest) (flat_map_filter p f xs)
+
+pub nil_left : {A : Type 0} (xs ys : List A) → xs ++ ys ≡ [] → xs ≡ []
+nil_left [] ys e = refl
+nil_left (x ∷ xs) ys e = cc
+
+pub nil_right : {A : Type 0} (xs ys : List A) → xs ++ ys ≡ [] → ys ≡ []
+nil_right [] ys e = e
+nil_right (x ∷ xs) ys e = cc
+
+pub nil_from_first : {A : Type 0} (xs : List A) → first xs ≡ None → xs ≡ []
+nil_from_first [] e = refl
+nil_from_first (x ∷ xs) e = cc
+
+-- lists that are joined to none are all without an element
+pub all_empty : {A B : Type 0} (f : A → List B) (xs : List A) → flat_map f xs ≡ [] → (i : ℕ) (d : A) → i < length xs → f (get_or xs i d) ≡ []
+all_empty f [] e i d h = absurd (omega arith)
+all_empty f (x ∷ xs) e zero d h = nil_left (f x) (flat_map f xs) e
+all_empty f (x ∷ xs) e (suc i) d h = all_empty f xs (nil_right (f x) (flat_map f xs) e) i d (omega arith)

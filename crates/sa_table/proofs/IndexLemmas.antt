@@ -3,7 +3,7 @@ use Rattle.std.proofs.Common.{◌≡◌, ◌≢◌, ℕ, ◌+◌, ◌-◌, ◌<�
 use Rattle.std.proofs.lemmas.Bool.{false≢true, cases_lt}
 use Rattle.std.proofs.lemmas.Bool.Decides.{Decides-ltb, nat_tests}
 use Rattle.std.proofs.lemmas.List.{get_or_append_left, get_or_push, length_push}
-use Rattle.std.proofs.lemmas.List.Sums.{position_or_len_is}
+use Rattle.std.proofs.lemmas.List.Sums.{position_or_len_is, fails_before_first}
 use Rattle.std.specs.List.{position, position_or_len}
 use Rattle.sa_value.specs.declared.value.Value.{Value}
 use Rattle.sa_table.specs.declared.def.KeyDef.{KeyDef}
@@ -16,7 +16,7 @@ use Rattle.sa_table.specs.inner.Index.{bound_in, bound_before, bound_after, Adds
 use Rattle.sa_table.specs.inner.Keys.{row_digest, IsAfterLast, IsIndexed}
 use Rattle.sa_table.proofs.TupleLemmas.{digest_of_colliding, collides_with_both}
 
-false_unless : (b : Bool) → (b ≡ true → ⊥) → b ≡ false
+pub false_unless : (b : Bool) → (b ≡ true → ⊥) → b ≡ false
 false_unless false never = refl
 false_unless true never = absurd (never refl)
 
@@ -62,3 +62,14 @@ empty_indexed key index before none = record {
   };
   before = λ row digest there is. absurd (omega arith);
 }
+
+-- where no first one is found, none passes
+pub position_found : {A : Type 0} (p : A → Bool) (xs : List A) (d : A) → position p xs ≡ None → (k : ℕ) → k < length xs → p (get_or xs k d) ≡ false
+position_found p xs d none k there =
+    ⊎_elim
+        (λ inside. absurd (some_none (position_or_len p xs) (sym (ap (λ at. cond at (Some (position_or_len p xs)) None) ((Decides-ltb (position_or_len p xs) (length xs)).1 inside)) ∙ none)))
+        (λ outside. fails_before_first p xs k d (omega arith))
+        (cases_lt (position_or_len p xs) (length xs))
+  where
+    some_none : (at : ℕ) → Some at ≡ None → ⊥
+    some_none at e = cc

@@ -7,3 +7,6 @@ pub mod StoreLemmas
 pub mod TupleLemmas
 pub mod IndexLemmas
 pub mod KeyFaultLemmas
+pub mod RowLemmas
+pub mod SameLemmas
+pub mod GrowthLemmas
