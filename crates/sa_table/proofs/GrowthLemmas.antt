@@ -6,7 +6,7 @@ use Rattle.std.proofs.lemmas.List.{length_push, get_or_append_left, get_or_push,
 use Rattle.std.proofs.lemmas.List.Elements.{All-push, All-nil, All-weaker}
 use Rattle.std.proofs.lemmas.List.Quantifiers.{all_pairs_push}
 use Rattle.std.proofs.lemmas.List.FromFn.{length-map-range_with_len, length-enumerate_from}
-use Rattle.std.specs.Prelude.{All, AllPairs}
+use Rattle.std.specs.Prelude.{All, AllPairs, Result, Ok, Err, OnErr}
 use Rattle.std.specs.List.{enumerate_from, range_with_len, slice_index}
 use Rattle.sa_value.specs.declared.value.Value.{Value}
 use Rattle.sa_table.specs.declared.column.Column.{Column}
@@ -22,15 +22,18 @@ use Rattle.sa_table.specs.inner.Stored.{Keeps, IsDefinition}
 use Rattle.sa_table.specs.Create.{told}
 use Rattle.sa_table.specs.Table.{key_tuple}
 use Rattle.sa_table.specs.declared.def.ColumnDef.{ColumnDef}
+use Rattle.sa_table.specs.declared.fault.RowFault.{RowFault}
 use Rattle.sa_table.specs.inner.Digest.{digest_of}
+use Rattle.sa_table.specs.inner.First.{first}
 use Rattle.sa_table.specs.inner.Index.{bound_in, bound_before, bound_after, AddsDigest}
-use Rattle.sa_table.specs.inner.Keys.{row_digest, IsAfterLast, IsIndexed, AreIndexed, AddDigests}
-use Rattle.sa_table.specs.inner.Store.{row_in, rows_in, held_row, Fills, SameKinds, HoldKinds}
-use Rattle.sa_table.proofs.FirstLemmas.{nil_left, nil_right, all_empty}
+use Rattle.sa_table.specs.inner.Keys.{row_digest, IsAfterLast, IsIndexed, AreIndexed, AddDigests, IsSearchable, SameIndexes}
+use Rattle.sa_table.specs.inner.Store.{row_in, rows_in, held_row, Fills, SameKinds, HoldKinds, SameStore}
+use Rattle.sa_table.proofs.FirstLemmas.{nil_from_first, nil_left, nil_right, all_empty, first_before, first_after}
 use Rattle.sa_table.proofs.IndexLemmas.{position_found, false_unless}
 use Rattle.sa_table.proofs.KeyFaultLemmas.{unique_fault, fault_at, key_faults_is}
 use Rattle.sa_table.proofs.RaisedLemmas.{raised_again}
-use Rattle.sa_table.proofs.RowLemmas.{kept_fits, held_is_kept, told_false, not_false}
+use Rattle.sa_table.proofs.RowLemmas.{ranged_row, kept_fits, held_is_kept, told_false, not_false}
+use Rattle.sa_table.proofs.SameLemmas.{same_rows, same_keeps}
 use Rattle.sa_table.proofs.TupleLemmas.{kept_tuple, digest_of-kept, collides-kept}
 
 pub new_sound : (def : TableDef) → IsDefinition def → IsSoundTable (new_table def)
@@ -197,3 +200,74 @@ grown_keeps def old new row indexes others keeps is rows filled kinds wide adds 
       filled = filled;
       indexed = subst (λ rows. AreIndexed rows def.keys others) (sym rows_are) (indexes_grow def.keys (rows_in old) row indexes others keeps.indexed (subst (λ number. AddDigests def.keys row number indexes others) (sym long) adds));
     }
+
+full_when : (n : ℕ) → 1000000 ≤ n → nat_le 1000000 n ≡ true
+full_when n h = grind (arith, nat_tests)
+
+not_full_when : (n : ℕ) → n < 1000000 → nat_le 1000000 n ≡ false
+not_full_when n h = grind (arith, nat_tests)
+
+pub full_first : (table : Table) (row : List Value) → 1000000 ≤ length table.rows → Some RowFull ≡ first (row_faults table row)
+full_first table row full =
+    ap (λ full. first (told full RowFull ++ told (not (length row == length table.def.columns)) Arity ++ column_faults table.def.columns row ++ key_faults table.def.keys table.rows row))
+        (sym (full_when (length table.rows) full))
+
+pub arity_first : (table : Table) (row : List Value) → length table.rows < 1000000 → length row ≢ length table.def.columns → Some Arity ≡ first (row_faults table row)
+arity_first table row few other =
+    ap (λ same. first (told false RowFull ++ told (not same) Arity ++ column_faults table.def.columns row ++ key_faults table.def.keys table.rows row))
+        (sym (false_unless (length row == length table.def.columns) (λ e. other ((Decides-eqb (length row) (length table.def.columns)).0 e))))
+    ∙ ap (λ full. first (told full RowFull ++ told (not (length row == length table.def.columns)) Arity ++ column_faults table.def.columns row ++ key_faults table.def.keys table.rows row))
+        (sym (not_full_when (length table.rows) few))
+
+rest_first : (table : Table) (row : List Value) → length table.rows < 1000000 → length row ≡ length table.def.columns → first (column_faults table.def.columns row ++ key_faults table.def.keys table.rows row) ≡ first (row_faults table row)
+rest_first table row few wide =
+    ap (λ same. first (told false RowFull ++ told (not same) Arity ++ column_faults table.def.columns row ++ key_faults table.def.keys table.rows row))
+        (sym ((Decides-eqb (length row) (length table.def.columns)).1 wide))
+    ∙ ap (λ full. first (told full RowFull ++ told (not (length row == length table.def.columns)) Arity ++ column_faults table.def.columns row ++ key_faults table.def.keys table.rows row))
+        (sym (not_full_when (length table.rows) few))
+
+pub column_first : (table : Table) (row : List Value) (fault : RowFault) → length table.rows < 1000000 → length row ≡ length table.def.columns → first (column_faults table.def.columns row) ≡ Some fault → Some fault ≡ first (row_faults table row)
+column_first table row fault few wide told = sym (first_before (column_faults table.def.columns row) (key_faults table.def.keys table.rows row) fault told) ∙ rest_first table row few wide
+
+pub key_first : (table : Table) (row : List Value) → length table.rows < 1000000 → length row ≡ length table.def.columns → first (column_faults table.def.columns row) ≡ None → first (key_faults table.def.keys table.rows row) ≡ first (row_faults table row)
+key_first table row few wide none = sym (first_after (column_faults table.def.columns row) (key_faults table.def.keys table.rows row) none) ∙ rest_first table row few wide
+
+-- each unique key can be searched for a row whose values are without a fault
+pub searchable : (def : TableDef) (store : Store) (indexes : List Index) (row : List Value) → Keeps def store indexes → length row ≡ length def.columns → column_faults def.columns row ≡ [] → All (λ key. is_unique key ≡ true → IsSearchable store key row) def.keys
+searchable def store indexes row keeps wide none k key there unique = record {
+  filled = keeps.filled;
+  wide = omega (arith, wide, keeps.kinds.wide);
+  ranged = ranged_row def.columns row wide none;
+  parts = λ i part inside. omega (arith, (keeps.sound.keys k key there).there i part inside, keeps.kinds.wide);
+  distinct = keeps.sound.distinct k key there;
+}
+
+pub faultless_now : (table now : Table) (row slice : List Value) (found : Option RowFault) → table ≡ now → slice ≡ row → found ≡ first (row_faults now slice) → found ≡ None → IsFaultless table row
+faultless_now table now row slice found view lent is none =
+    faultless table row (nil_from_first (row_faults table row) (ap (λ table. first (row_faults table row)) view ∙ ap (λ row. first (row_faults now row)) (sym lent) ∙ sym is ∙ none))
+
+abbrev pub table_of : TableDef → List (List Value) → Table
+table_of def rows = record { def = def; rows = rows }
+
+pub same_view : (def : TableDef) (now : Table) (old new : Store) → SameStore old new → table_of def (rows_in old) ≡ now → table_of def (rows_in new) ≡ now
+same_view def now old new same view = ap (table_of def) (same_rows old new same) ∙ view
+
+-- the table after room was made and the row was put in
+pub record Grows (def : TableDef) (old new : Store) (row : List Value) (others : List Index) : Type 0 where
+  pub keeps : Keeps def new others
+  pub rows : rows_in new ≡ rows_in old ++ map kept_value row ∷ []
+
+pub grows : (def : TableDef) (old mid new : Store) (row : List Value) (indexes between others : List Index) → Keeps def old indexes → IsFaultless (table_of def (rows_in old)) row → SameStore old mid → SameIndexes indexes between
+    → rows_in new ≡ rows_in mid ++ held_row mid.columns.items row ∷ [] → Fills new → SameKinds mid new → vec_len new.columns ≡ vec_len mid.columns → AddDigests def.keys row mid.count between others → Grows def old new row others
+grows def old mid new row indexes between others keeps is store index rows filled kinds wide adds =
+    let middle : Keeps def mid between = same_keeps def old mid indexes between store index keeps in
+    let is_middle : IsFaultless (table_of def (rows_in mid)) row = subst (λ rows. IsFaultless (table_of def rows) row) (sym (same_rows old mid store)) is in
+    record {
+      keeps = grown_keeps def mid new row between others middle is_middle rows filled kinds wide adds;
+      rows = rows ∙ ap (λ last. rows_in mid ++ last ∷ []) (held_is_kept def.columns mid.columns.items row middle.kinds is.wide is.columns)
+        ∙ ap (λ rows. rows ++ map kept_value row ∷ []) (same_rows old mid store);
+    }
+
+pub on_err : {A B : Type 0} (result : Result A B) (P : Type 0) → P → OnErr result P
+on_err (Ok value) P p = tt
+on_err (Err error) P p = p

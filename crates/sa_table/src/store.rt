@@ -86,7 +86,7 @@ impl Store {
         ensures rows { rows_in self.new ≡ rows_in self.old ++ held_row self.old.columns.items row.items ∷ [] }
         ensures filled { Fills self.new }
         ensures kinds { SameKinds self.old self.new }
-        ensures count { self.new.count ≡ self.old.count + 1 }
+        ensures wide { vec_len self.new.columns ≡ vec_len self.old.columns }
     {
         for column in 0..self.columns.len() {
             let value = mem::replace(&mut row[column], Value::Null);
