@@ -10,3 +10,4 @@ pub mod KeyFaultLemmas
 pub mod RowLemmas
 pub mod SameLemmas
 pub mod GrowthLemmas
+pub mod SoundLemmas
