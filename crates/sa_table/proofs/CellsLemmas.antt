@@ -1,5 +1,5 @@
 -- The cells that two lists stand for, and what becomes of them at a push.
-use Rattle.std.proofs.Common.{◌≡◌, ℕ, zero, suc, ◌+◌, ◌<◌, ◌≤◌, List, [], ◌∷◌, ◌++◌, length, get_or, Bool, true, false, cond, Option, Some, None, refl, sym, ap, arith}
+use Rattle.std.proofs.Common.{◌≡◌, ℕ, zero, suc, ◌<◌, ◌≤◌, List, [], ◌∷◌, ◌++◌, length, get_or, Bool, true, false, cond, Option, Some, None, refl, sym, ap, arith}
 use Rattle.sa_table.specs.inner.Cells.{cells_of}
 
 pub null_at : {T : Type 0} (nulls : List Bool) (items : List T) (row : ℕ) → get_or nulls row false ≡ true → None ≡ get_or (cells_of nulls items) row None

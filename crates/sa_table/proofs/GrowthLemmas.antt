@@ -1,15 +1,14 @@
 -- What a table keeps as its lists get room, and as it takes one more row.
-use Rattle.std.proofs.Common.{◌≡◌, ◌≢◌, ℕ, ◌+◌, ◌-◌, ◌<◌, ◌≤◌, List, [], ◌∷◌, ◌++◌, map, length, get_or, vec_len, Bool, true, false, cond, nat_eq, nat_le, not, ◌==◌, Option, Some, None, refl, sym, ap, subst, ◌∙◌, arith, ⊎_elim}
+use Rattle.std.proofs.Common.{◌≡◌, ◌≢◌, ℕ, ◌+◌, ◌-◌, ◌<◌, ◌≤◌, List, [], ◌∷◌, ◌++◌, map, length, get_or, vec_len, true, false, cond, nat_eq, nat_le, not, ◌==◌, Option, Some, None, refl, sym, ap, subst, ◌∙◌, arith, ⊎_elim}
 use Rattle.std.proofs.lemmas.Bool.{cases_lt, cases_eq}
 use Rattle.std.proofs.lemmas.Bool.Decides.{nat_tests, Decides-eqb}
 use Rattle.std.proofs.lemmas.List.{length_push, get_or_append_left, get_or_push, length-map}
-use Rattle.std.proofs.lemmas.List.Elements.{All-push, All-nil, All-weaker}
+use Rattle.std.proofs.lemmas.List.Elements.{All-push, All-nil}
 use Rattle.std.proofs.lemmas.List.Quantifiers.{all_pairs_push}
 use Rattle.std.proofs.lemmas.List.FromFn.{length-map-range_with_len, length-enumerate_from}
-use Rattle.std.specs.Prelude.{All, AllPairs, Result, Ok, Err, OnErr}
-use Rattle.std.specs.List.{enumerate_from, range_with_len, slice_index}
+use Rattle.std.specs.Prelude.{All, Result, Ok, Err, OnErr}
+use Rattle.std.specs.List.{enumerate_from, slice_index}
 use Rattle.sa_value.specs.declared.value.Value.{Value}
-use Rattle.sa_table.specs.declared.column.Column.{Column}
 use Rattle.sa_table.specs.declared.def.TableDef.{TableDef}
 use Rattle.sa_table.specs.declared.def.KeyDef.{KeyDef}
 use Rattle.sa_table.specs.declared.index.Index.{Index}
@@ -17,17 +16,16 @@ use Rattle.sa_table.specs.declared.store.Store.{Store}
 use Rattle.sa_table.specs.Table.{Table, new_table, raised, raised_column, is_unique}
 use Rattle.sa_table.specs.AddRow.{row_faults, column_faults, key_faults, kept_value, collides, told_row}
 use Rattle.sa_table.specs.declared.fault.RowFault.TheVariants.{RowFull, Arity}
-use Rattle.sa_table.specs.Sound.{IsSoundTable, IsKey, IsRow, IsDistinct}
+use Rattle.sa_table.specs.Sound.{IsSoundTable, IsRow}
 use Rattle.sa_table.specs.inner.Stored.{Keeps, IsDefinition}
 use Rattle.sa_table.specs.Create.{told}
 use Rattle.sa_table.specs.Table.{key_tuple}
-use Rattle.sa_table.specs.declared.def.ColumnDef.{ColumnDef}
 use Rattle.sa_table.specs.declared.fault.RowFault.{RowFault}
 use Rattle.sa_table.specs.inner.Digest.{digest_of}
 use Rattle.sa_table.specs.inner.First.{first}
 use Rattle.sa_table.specs.inner.Index.{bound_in, bound_before, bound_after, AddsDigest}
 use Rattle.sa_table.specs.inner.Keys.{row_digest, IsAfterLast, IsIndexed, AreIndexed, AddDigests, IsSearchable, SameIndexes}
-use Rattle.sa_table.specs.inner.Store.{row_in, rows_in, held_row, Fills, SameKinds, HoldKinds, SameStore}
+use Rattle.sa_table.specs.inner.Store.{row_in, rows_in, held_row, Fills, SameKinds, SameStore}
 use Rattle.sa_table.proofs.FirstLemmas.{nil_from_first, nil_left, nil_right, all_empty, first_before, first_after}
 use Rattle.sa_table.proofs.IndexLemmas.{position_found, false_unless}
 use Rattle.sa_table.proofs.KeyFaultLemmas.{unique_fault, fault_at, key_faults_is}
@@ -76,10 +74,10 @@ after_other parts rows row digest given other last =
       within = omega (arith, last.within, length_push rows (map kept_value row));
       last = before.last;
       others = λ k from to is. ⊎_elim (λ inside. before.others k from inside is)
-        (λ outside.
-            let at : k ≡ length rows = omega (arith, length_push rows (map kept_value row)) in
-            other (sym (last_digest parts rows row) ∙ ap (row_digest parts (rows ++ map kept_value row ∷ [])) (sym at) ∙ is))
-        (cases_lt k (length rows));
+          (λ outside.
+          let at : k ≡ length rows = omega (arith, length_push rows (map kept_value row)) in
+          other (sym (last_digest parts rows row) ∙ ap (row_digest parts (rows ++ map kept_value row ∷ [])) (sym at) ∙ is))
+          (cases_lt k (length rows));
     }
 
 -- the digest of the new row is last there
@@ -100,13 +98,13 @@ last_grows : (key : KeyDef) (rows : List (List Value)) (row : List Value) (old :
 last_grows key rows row old None is indexed digest = after_other key.parts rows row digest (bound_in old digest) (λ e. none_other digest (sym is ∙ e)) (indexed.last digest)
 last_grows key rows row old (Some added) is indexed digest =
     ⊎_elim
-        (λ same. subst (λ given. IsAfterLast key.parts (rows ++ map kept_value row ∷ []) digest (length (rows ++ map kept_value row ∷ [])) given)
-            (ap (λ at. cond at (length rows + 1) (bound_in old digest)) (sym ((Decides-eqb added digest).1 same)))
-            (after_same key.parts rows row digest (is ∙ ap Some same)))
-        (λ apart. subst (λ given. IsAfterLast key.parts (rows ++ map kept_value row ∷ []) digest (length (rows ++ map kept_value row ∷ [])) given)
-            (ap (λ at. cond at (length rows + 1) (bound_in old digest)) (sym (false_unless (nat_eq added digest) (λ e. apart ((Decides-eqb added digest).0 e)))))
-            (after_other key.parts rows row digest (bound_in old digest) (λ e. apart (some_same added digest (sym is ∙ e))) (indexed.last digest)))
-        (cases_eq added digest)
+    (λ same. subst (λ given. IsAfterLast key.parts (rows ++ map kept_value row ∷ []) digest (length (rows ++ map kept_value row ∷ [])) given)
+    (ap (λ at. cond at (length rows + 1) (bound_in old digest)) (sym ((Decides-eqb added digest).1 same)))
+    (after_same key.parts rows row digest (is ∙ ap Some same)))
+    (λ apart. subst (λ given. IsAfterLast key.parts (rows ++ map kept_value row ∷ []) digest (length (rows ++ map kept_value row ∷ [])) given)
+    (ap (λ at. cond at (length rows + 1) (bound_in old digest)) (sym (false_unless (nat_eq added digest) (λ e. apart ((Decides-eqb added digest).0 e)))))
+    (after_other key.parts rows row digest (bound_in old digest) (λ e. apart (some_same added digest (sym is ∙ e))) (indexed.last digest)))
+    (cases_eq added digest)
   where
     some_same : (a b : ℕ) → Some a ≡ Some b → a ≡ b
     some_same a b e = cc
@@ -116,17 +114,17 @@ index_grows key rows row old new indexed adds = record {
   before_all = omega (arith, ap length adds.before, length_push old.before.items (bound_before old (digest_of (key_tuple key.parts row))), length_push rows (map kept_value row), indexed.before_all);
   last = λ digest. subst (λ given. IsAfterLast key.parts (rows ++ map kept_value row ∷ []) digest (length (rows ++ map kept_value row ∷ [])) given) (sym (adds.bounds digest)) (last_grows key rows row old (digest_of (key_tuple key.parts row)) refl indexed digest);
   before = λ k digest there is. ⊎_elim
-    (λ inside. subst (λ given. IsAfterLast key.parts (rows ++ map kept_value row ∷ []) digest k given)
-        (sym (ap (λ (items : List ℕ). get_or items k 0) adds.before ∙ get_or_append_left old.before.items (bound_before old (digest_of (key_tuple key.parts row)) ∷ []) 0 k (omega (arith, indexed.before_all))))
-        (still_after key.parts rows row digest k (slice_index old.before.items k) (omega arith) (indexed.before k digest inside (sym (earlier_digest key.parts rows row k inside) ∙ is))))
-    (λ outside.
-        let at : k ≡ length rows = omega (arith, length_push rows (map kept_value row)) in
-        let digest_is : digest_of (key_tuple key.parts row) ≡ Some digest = sym (last_digest key.parts rows row) ∙ ap (row_digest key.parts (rows ++ map kept_value row ∷ [])) (sym at) ∙ is in
-        subst (λ given. IsAfterLast key.parts (rows ++ map kept_value row ∷ []) digest k given)
-            (sym (ap (λ (items : List ℕ). get_or items k 0) adds.before ∙ get_or_push old.before.items (bound_before old (digest_of (key_tuple key.parts row))) 0 k (omega (arith, indexed.before_all)) ∙ ap (bound_before old) digest_is))
-            (subst (λ below. IsAfterLast key.parts (rows ++ map kept_value row ∷ []) digest below (bound_in old digest)) (sym at)
-                (still_after key.parts rows row digest (length rows) (bound_in old digest) (omega arith) (indexed.last digest))))
-    (cases_lt k (length rows));
+      (λ inside. subst (λ given. IsAfterLast key.parts (rows ++ map kept_value row ∷ []) digest k given)
+      (sym (ap (λ (items : List ℕ). get_or items k 0) adds.before ∙ get_or_append_left old.before.items (bound_before old (digest_of (key_tuple key.parts row)) ∷ []) 0 k (omega (arith, indexed.before_all))))
+      (still_after key.parts rows row digest k (slice_index old.before.items k) (omega arith) (indexed.before k digest inside (sym (earlier_digest key.parts rows row k inside) ∙ is))))
+      (λ outside.
+      let at : k ≡ length rows = omega (arith, length_push rows (map kept_value row)) in
+      let digest_is : digest_of (key_tuple key.parts row) ≡ Some digest = sym (last_digest key.parts rows row) ∙ ap (row_digest key.parts (rows ++ map kept_value row ∷ [])) (sym at) ∙ is in
+      subst (λ given. IsAfterLast key.parts (rows ++ map kept_value row ∷ []) digest k given)
+      (sym (ap (λ (items : List ℕ). get_or items k 0) adds.before ∙ get_or_push old.before.items (bound_before old (digest_of (key_tuple key.parts row))) 0 k (omega (arith, indexed.before_all)) ∙ ap (bound_before old) digest_is))
+      (subst (λ below. IsAfterLast key.parts (rows ++ map kept_value row ∷ []) digest below (bound_in old digest)) (sym at)
+      (still_after key.parts rows row digest (length rows) (bound_in old digest) (omega arith) (indexed.last digest))))
+      (cases_lt k (length rows));
 }
 
 pub indexes_grow : (keys : List KeyDef) (rows : List (List Value)) (row : List Value) (old new : List Index) → AreIndexed rows keys old → AddDigests keys row (length rows) old new → AreIndexed (rows ++ map kept_value row ∷ []) keys new
@@ -142,8 +140,8 @@ position_free (Some row) e = cc
 keys_free : (keys : List KeyDef) (rows : List (List Value)) (row : List Value) → key_faults keys rows row ≡ [] → (k : ℕ) (key : KeyDef) → k < length keys → is_unique (get_or keys k key) ≡ true → (i : ℕ) (d : List Value) → i < length rows → collides (get_or keys k key) row (get_or rows i d) ≡ false
 keys_free keys rows row none k key there unique i d inside =
     position_found (collides (get_or keys k key) row) rows d
-        (position_free _ (ap (λ is. cond is (fault_at rows row (get_or keys k key)) []) (sym unique) ∙ all_empty (unique_fault rows row) keys (key_faults_is keys rows row ∙ none) k key there))
-        i inside
+    (position_free _ (ap (λ is. cond is (fault_at rows row (get_or keys k key)) []) (sym unique) ∙ all_empty (unique_fault rows row) keys (key_faults_is keys rows row ∙ none) k key there))
+    i inside
 
 same_length : (a b : ℕ) → (a == b) ≡ true → a ≡ b
 same_length a b e = (Decides-eqb a b).0 e
@@ -182,7 +180,7 @@ grown_sound def rows row sound is = record {
   raised_is = sound.raised_is;
   rows = All-push (IsRow def) rows (map kept_value row) sound.rows (kept_fits def row is.wide is.columns);
   distinct = λ k key there unique. all_pairs_push (λ earlier later. collides (get_or def.keys k key) later earlier ≡ false) rows (map kept_value row) (sound.distinct k key there unique)
-    (λ i d inside. collides-kept (get_or def.keys k key) row (get_or rows i d) ∙ keys_free def.keys rows row is.keys k key there unique i d inside);
+      (λ i d inside. collides-kept (get_or def.keys k key) row (get_or rows i d) ∙ keys_free def.keys rows row is.keys k key there unique i d inside);
 }
 
 -- A table takes a row without a fault.
@@ -210,21 +208,21 @@ not_full_when n h = grind (arith, nat_tests)
 pub full_first : (table : Table) (row : List Value) → 1000000 ≤ length table.rows → Some RowFull ≡ first (row_faults table row)
 full_first table row full =
     ap (λ full. first (told full RowFull ++ told (not (length row == length table.def.columns)) Arity ++ column_faults table.def.columns row ++ key_faults table.def.keys table.rows row))
-        (sym (full_when (length table.rows) full))
+    (sym (full_when (length table.rows) full))
 
 pub arity_first : (table : Table) (row : List Value) → length table.rows < 1000000 → length row ≢ length table.def.columns → Some Arity ≡ first (row_faults table row)
 arity_first table row few other =
     ap (λ same. first (told false RowFull ++ told (not same) Arity ++ column_faults table.def.columns row ++ key_faults table.def.keys table.rows row))
-        (sym (false_unless (length row == length table.def.columns) (λ e. other ((Decides-eqb (length row) (length table.def.columns)).0 e))))
+    (sym (false_unless (length row == length table.def.columns) (λ e. other ((Decides-eqb (length row) (length table.def.columns)).0 e))))
     ∙ ap (λ full. first (told full RowFull ++ told (not (length row == length table.def.columns)) Arity ++ column_faults table.def.columns row ++ key_faults table.def.keys table.rows row))
-        (sym (not_full_when (length table.rows) few))
+    (sym (not_full_when (length table.rows) few))
 
 rest_first : (table : Table) (row : List Value) → length table.rows < 1000000 → length row ≡ length table.def.columns → first (column_faults table.def.columns row ++ key_faults table.def.keys table.rows row) ≡ first (row_faults table row)
 rest_first table row few wide =
     ap (λ same. first (told false RowFull ++ told (not same) Arity ++ column_faults table.def.columns row ++ key_faults table.def.keys table.rows row))
-        (sym ((Decides-eqb (length row) (length table.def.columns)).1 wide))
+    (sym ((Decides-eqb (length row) (length table.def.columns)).1 wide))
     ∙ ap (λ full. first (told full RowFull ++ told (not (length row == length table.def.columns)) Arity ++ column_faults table.def.columns row ++ key_faults table.def.keys table.rows row))
-        (sym (not_full_when (length table.rows) few))
+    (sym (not_full_when (length table.rows) few))
 
 pub column_first : (table : Table) (row : List Value) (fault : RowFault) → length table.rows < 1000000 → length row ≡ length table.def.columns → first (column_faults table.def.columns row) ≡ Some fault → Some fault ≡ first (row_faults table row)
 column_first table row fault few wide told = sym (first_before (column_faults table.def.columns row) (key_faults table.def.keys table.rows row) fault told) ∙ rest_first table row few wide
@@ -265,7 +263,7 @@ grows def old mid new row indexes between others keeps is store index rows fille
     record {
       keeps = grown_keeps def mid new row between others middle is_middle rows filled kinds wide adds;
       rows = rows ∙ ap (λ last. rows_in mid ++ last ∷ []) (held_is_kept def.columns mid.columns.items row middle.kinds is.wide is.columns)
-        ∙ ap (λ rows. rows ++ map kept_value row ∷ []) (same_rows old mid store);
+          ∙ ap (λ rows. rows ++ map kept_value row ∷ []) (same_rows old mid store);
     }
 
 pub on_err : {A B : Type 0} (result : Result A B) (P : Type 0) → P → OnErr result P

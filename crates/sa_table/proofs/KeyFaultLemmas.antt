@@ -1,5 +1,5 @@
 -- The faults of a row in the unique keys, as a loop goes over them.
-use Rattle.std.proofs.Common.{◌≡◌, ℕ, ◌+◌, ◌<◌, ◌≤◌, List, [], length, get_or, drop, Bool, true, false, cond, Option, Some, None, refl, sym, ap, ◌∙◌}
+use Rattle.std.proofs.Common.{◌≡◌, ℕ, ◌+◌, ◌<◌, ◌≤◌, List, [], length, get_or, drop, Bool, true, false, cond, Some, None, refl, sym, ap, ◌∙◌}
 use Rattle.std.proofs.lemmas.List.{drop_all}
 use Rattle.std.specs.List.{flat_map, position}
 use Rattle.sa_value.specs.declared.value.Value.{Value}
@@ -27,12 +27,12 @@ key_faults_is keys rows row = sym (flat_map_filter is_unique (fault_at rows row)
 pub fault_here : (keys : List KeyDef) (rows : List (List Value)) (row : List Value) (i : ℕ) (key : KeyDef) (found : ℕ) → i < length keys → is_unique (get_or keys i key) ≡ true → position (collides (get_or keys i key) row) rows ≡ Some found → first (faults_from keys rows row i) ≡ Some (DuplicateKey found)
 fault_here keys rows row i key found there unique at =
     first_here (unique_fault rows row) keys i key (DuplicateKey found) there
-        (ap (λ is. first (cond is (fault_at rows row (get_or keys i key)) [])) unique ∙ ap (λ row. first (told_row row)) at)
+    (ap (λ is. first (cond is (fault_at rows row (get_or keys i key)) [])) unique ∙ ap (λ row. first (told_row row)) at)
 
 pub fault_later : (keys : List KeyDef) (rows : List (List Value)) (row : List Value) (i : ℕ) (key : KeyDef) → i < length keys → position (collides (get_or keys i key) row) rows ≡ None → first (faults_from keys rows row i) ≡ first (faults_from keys rows row (i + 1))
 fault_later keys rows row i key there none =
     first_later (unique_fault rows row) keys i key there
-        (ap (λ row. first (cond (is_unique (get_or keys i key)) (told_row row) [])) none ∙ nothing (is_unique (get_or keys i key)))
+    (ap (λ row. first (cond (is_unique (get_or keys i key)) (told_row row) [])) none ∙ nothing (is_unique (get_or keys i key)))
   where
     nothing : (is : Bool) → first {A = RowFault} (cond is [] []) ≡ None
     nothing true = refl

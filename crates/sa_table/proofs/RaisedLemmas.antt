@@ -1,5 +1,5 @@
 -- The columns of a table, with those of the primary key NOT NULL.
-use Rattle.std.proofs.Common.{◌≡◌, ℕ, ◌+◌, ◌<◌, ◌≤◌, List, [], ◌∷◌, length, get_or, Bool, true, false, ◌||◌, map, refl, sym, ap, ◌∙◌, zero-add, arith}
+use Rattle.std.proofs.Common.{◌≡◌, ℕ, ◌+◌, ◌<◌, List, [], ◌∷◌, length, get_or, Bool, true, false, ◌||◌, map, refl, sym, ap, ◌∙◌, zero-add, arith}
 use Rattle.std.proofs.lemmas.List.{same_lists, length-map, get_or-map}
 use Rattle.std.proofs.lemmas.List.FromFn.{length-enumerate_from, get_or-enumerate_from}
 use Rattle.std.specs.List.{enumerate_from}
@@ -15,8 +15,8 @@ raised_at keys columns k d h =
 pub all_raised : (keys : List KeyDef) (raised columns : List ColumnDef) → length raised ≡ length columns → ((k : ℕ) (d : ColumnDef) → k < length columns → get_or raised k d ≡ raised_column keys (k, get_or columns k d)) → raised ≡ map (raised_column keys) (enumerate_from 0 columns)
 all_raised keys raised columns long each =
     same_lists raised (map (raised_column keys) (enumerate_from 0 columns))
-        (omega (arith, long, length-map (enumerate_from 0 columns) (raised_column keys), length-enumerate_from 0 columns))
-        (λ k d h. each k d (omega arith) ∙ sym (raised_at keys columns k d (omega arith)))
+    (omega (arith, long, length-map (enumerate_from 0 columns) (raised_column keys), length-enumerate_from 0 columns))
+    (λ k d h. each k d (omega arith) ∙ sym (raised_at keys columns k d (omega arith)))
 
 or_twice : (a b : Bool) → ((a || b) || b) ≡ (a || b)
 or_twice true b = refl

@@ -1,12 +1,12 @@
 -- What a row without a fault is, and what is kept of it.
-use Rattle.std.proofs.Common.{◌≡◌, ℕ, ◌+◌, ◌<◌, ◌≤◌, ℤ, List, [], ◌∷◌, ◌++◌, map, length, get_or, Bool, true, false, cond, ◌&&◌, not, Option, Some, None, refl, sym, ap, subst, ◌∙◌, arith}
+use Rattle.std.proofs.Common.{◌≡◌, ℕ, ◌<◌, ℤ, List, [], ◌∷◌, map, length, get_or, Bool, true, false, ◌&&◌, not, refl, sym, ap, subst, ◌∙◌, arith}
 use Rattle.std.proofs.lemmas.Int.{ints}
-use Rattle.std.proofs.lemmas.List.{same_lists, length-map, get_or-map, get_or_default}
+use Rattle.std.proofs.lemmas.List.{same_lists, length-map, get_or-map}
 use Rattle.std.proofs.lemmas.List.Elements.{All-from_get_or}
 use Rattle.std.proofs.lemmas.Slice.Zip.{length-zip, get_or-zip}
 use Rattle.std.specs.Int.{w64}
 use Rattle.std.specs.Prelude.{FitsSigned, All, int_le}
-use Rattle.std.specs.List.{flat_map, enumerate_from, zip}
+use Rattle.std.specs.List.{zip}
 use Rattle.sa_value.specs.declared.value.Value.{Value}
 use Rattle.sa_value.specs.declared.value.Value.TheVariants.{Null, Int, Big, Text}
 use Rattle.sa_table.specs.declared.def.ColumnDef.{ColumnDef}
@@ -15,8 +15,6 @@ use Rattle.sa_table.specs.declared.def.ColumnKind.TheVariants as kinds
 use Rattle.sa_table.specs.declared.def.TableDef.{TableDef}
 use Rattle.sa_table.specs.declared.column.Column.{Column}
 use Rattle.sa_table.specs.declared.column.Column.TheVariants.{Numbers, Texts}
-use Rattle.sa_table.specs.declared.fault.RowFault.{RowFault}
-use Rattle.sa_table.specs.Table.{value_in}
 use Rattle.sa_table.specs.Create.{told}
 use Rattle.sa_table.specs.AddRow.{least_number, greatest_number, number_faults, value_faults, column_faults, kept_value}
 use Rattle.sa_table.specs.Sound.{IsKept, FitsColumn, IsRow, column_at, no_column}
@@ -109,14 +107,14 @@ a_column (column ∷ columns) k h = column
 pub held_is_kept : (defs : List ColumnDef) (columns : List Column) (row : List Value) → HoldKinds defs columns → length row ≡ length defs → column_faults defs row ≡ [] → held_row columns row ≡ map kept_value row
 held_is_kept defs columns row holds wide none =
     same_lists (held_row columns row) (map kept_value row)
-        (omega (arith, length-map (zip columns row) held, length-zip columns row, length-map row kept_value, holds.wide))
-        (λ k d h.
-            let there : k < length row = omega (arith, length-map (zip columns row) held, length-zip columns row, holds.wide) in
-            let column : Column = a_column columns k (omega (arith, holds.wide)) in
-            get_or-map held (zip columns row) k (column, Null) d (omega (arith, length-zip columns row, holds.wide))
-            ∙ ap held (get_or-zip columns row k (column, Null) (omega (arith, holds.wide)) there)
-            ∙ held_value k (get_or defs k no_column) (get_or row k Null) (get_or columns k column) (value_faultless defs row wide none k no_column Null (omega arith)) (holds.each k no_column column (omega arith))
-            ∙ sym (get_or-map kept_value row k Null d there))
+    (omega (arith, length-map (zip columns row) held, length-zip columns row, length-map row kept_value, holds.wide))
+    (λ k d h.
+    let there : k < length row = omega (arith, length-map (zip columns row) held, length-zip columns row, holds.wide) in
+    let column : Column = a_column columns k (omega (arith, holds.wide)) in
+    get_or-map held (zip columns row) k (column, Null) d (omega (arith, length-zip columns row, holds.wide))
+    ∙ ap held (get_or-zip columns row k (column, Null) (omega (arith, holds.wide)) there)
+    ∙ held_value k (get_or defs k no_column) (get_or row k Null) (get_or columns k column) (value_faultless defs row wide none k no_column Null (omega arith)) (holds.each k no_column column (omega arith))
+    ∙ sym (get_or-map kept_value row k Null d there))
 
 faults-kept : (column : ℕ) (def : ColumnDef) (value : Value) → value_faults column def (kept_value value) ≡ value_faults column def value
 faults-kept column def Null = refl

@@ -1,9 +1,8 @@
 -- What a table keeps as its lists get room.
-use Rattle.std.proofs.Common.{◌≡◌, ℕ, ◌+◌, ◌<◌, ◌≤◌, List, [], ◌∷◌, ◌++◌, map, length, get_or, take, drop, vec_len, Bool, true, false, refl, sym, ap, subst, ◌∙◌, arith}
+use Rattle.std.proofs.Common.{◌≡◌, ℕ, ◌<◌, List, [], ◌∷◌, ◌++◌, map, length, get_or, take, drop, refl, sym, ap, subst, ◌∙◌, arith}
 use Rattle.std.proofs.lemmas.List.{same_lists, length-map, get_or-map, drop_all, take_all, append-nil}
 use Rattle.std.specs.List.{range_with_len, slice_index}
 use Rattle.sa_value.specs.declared.value.Value.{Value}
-use Rattle.sa_value.specs.declared.value.Value.TheVariants.{Null}
 use Rattle.sa_table.specs.declared.column.Column.{Column}
 use Rattle.sa_table.specs.declared.column.Column.TheVariants.{Numbers, Texts}
 use Rattle.sa_table.specs.declared.def.ColumnDef.{ColumnDef}
@@ -49,13 +48,13 @@ a_column (column ∷ columns) k h = column
 same_row : (old new : Store) → SameStore old new → (row : ℕ) → row_in new.columns.items row ≡ row_in old.columns.items row
 same_row old new same row =
     same_lists (row_in new.columns.items row) (row_in old.columns.items row)
-        (length-map new.columns.items (λ (at : Column). value_in (values_in at) row) ∙ wide ∙ sym (length-map old.columns.items (λ (at : Column). value_in (values_in at) row)))
-        (λ k d h.
-            let there : k < length old.columns.items = omega (arith, length-map new.columns.items (λ (at : Column). value_in (values_in at) row), wide) in
-            let column : Column = a_column old.columns.items k there in
-            get_or-map (λ (at : Column). value_in (values_in at) row) new.columns.items k column d (omega (arith, wide))
-            ∙ ap (λ values. value_in values row) (same_values (get_or old.columns.items k column) (get_or new.columns.items k column) (same.each k column (omega arith)))
-            ∙ sym (get_or-map (λ (at : Column). value_in (values_in at) row) old.columns.items k column d there))
+    (length-map new.columns.items (λ (at : Column). value_in (values_in at) row) ∙ wide ∙ sym (length-map old.columns.items (λ (at : Column). value_in (values_in at) row)))
+    (λ k d h.
+    let there : k < length old.columns.items = omega (arith, length-map new.columns.items (λ (at : Column). value_in (values_in at) row), wide) in
+    let column : Column = a_column old.columns.items k there in
+    get_or-map (λ (at : Column). value_in (values_in at) row) new.columns.items k column d (omega (arith, wide))
+    ∙ ap (λ values. value_in values row) (same_values (get_or old.columns.items k column) (get_or new.columns.items k column) (same.each k column (omega arith)))
+    ∙ sym (get_or-map (λ (at : Column). value_in (values_in at) row) old.columns.items k column d there))
   where
     wide : length new.columns.items ≡ length old.columns.items
     wide = omega (arith, same.wide)

@@ -1,14 +1,12 @@
 -- What is true of all tables as there comes one more.
-use Rattle.std.proofs.Common.{◌≡◌, ◌≢◌, ℕ, ◌+◌, ◌<◌, ◌≤◌, List, [], ◌∷◌, ◌++◌, zero, suc, length, get_or, Bool, true, false, ◌||◌, nat_lt, nat_le, nat_eq, refl, sym, ap, subst, ◌∙◌, arith}
-use Rattle.std.proofs.lemmas.Bool.{false≢true}
-use Rattle.std.proofs.lemmas.Bool.Decides.{nat_tests, Decides-eqb}
+use Rattle.std.proofs.Common.{◌≡◌, ℕ, ◌<◌, List, [], ◌∷◌, ◌++◌, zero, suc, length, get_or, Bool, true, false, ◌||◌, nat_lt, nat_le, nat_eq, refl, ap, ◌∙◌, arith}
+use Rattle.std.proofs.lemmas.Bool.Decides.{nat_tests}
 use Rattle.std.proofs.lemmas.List.{length_push}
 use Rattle.std.proofs.lemmas.List.Elements.{All-push}
 use Rattle.std.proofs.lemmas.List.Quantifiers.{all_pairs_push}
 use Rattle.std.specs.List.{list_any}
 use Rattle.std.specs.Prelude.{count_by}
 use Rattle.sa_table.specs.declared.def.TableDef.{TableDef}
-use Rattle.sa_table.specs.declared.fault.TableFault.{TableFault}
 use Rattle.sa_table.specs.declared.fault.TableFault.TheVariants as faults
 use Rattle.sa_table.specs.Table.{Table, new_table}
 use Rattle.sa_table.specs.Create.{same_name, any_alike, same_key_name, has_duplicate_name, told, table_faults}
@@ -58,5 +56,5 @@ sound_more tables def table sound none made one =
       few = omega (arith, few, length_push tables table);
       each = All-push IsSoundTable tables table sound.each one;
       names = all_pairs_push (λ earlier later. same_name earlier.def.name later.def.name ≡ false) tables table sound.names
-        (λ k d there. ap (λ (table : Table). same_name (get_or tables k d).def.name table.def.name) made ∙ none_of (λ (table : Table). same_name table.def.name def.name) tables fresh k d there);
+          (λ k d there. ap (λ (table : Table). same_name (get_or tables k d).def.name table.def.name) made ∙ none_of (λ (table : Table). same_name table.def.name def.name) tables fresh k d there);
     }

@@ -1,19 +1,17 @@
 -- Tuples that are equal part by part are the same once their numbers are kept.
-use Rattle.std.proofs.Common.{◌≡◌, ℕ, zero, suc, ◌+◌, ◌<◌, ◌≤◌, ℤ, List, [], ◌∷◌, ◌++◌, map, length, get_or, Bool, true, false, ◌&&◌, ◌||◌, not, Option, Some, None, refl, sym, ap, subst, ◌∙◌, arith}
+use Rattle.std.proofs.Common.{◌≡◌, ℕ, zero, suc, List, [], ◌∷◌, map, Bool, true, false, ◌&&◌, ◌||◌, not, Some, None, refl, sym, ap, ◌∙◌}
 use Rattle.std.proofs.lemmas.Cmp.{int_cmp_total, nat_list_cmp_total, tied_itself}
 use Rattle.std.proofs.lemmas.Map.Lookups.{exact_signed, exact_bytes}
 use Rattle.std.proofs.lemmas.Map.Views.{tells_apart}
-use Rattle.std.specs.Cmp.Lexicographic.{slice_cmp}
 use Rattle.std.specs.List.{list_any}
-use Rattle.std.specs.Option.{option_and_then}
-use Rattle.std.specs.Ordering.{nat_cmp, int_cmp, is_eq}
+use Rattle.std.specs.Ordering.{is_eq}
 use Rattle.sa_value.specs.declared.value.Value.{Value}
 use Rattle.sa_value.specs.declared.value.Value.TheVariants.{Null, Int, Big, Text}
 use Rattle.sa_value.specs.Compare.{order_of}
 use Rattle.sa_table.specs.declared.def.KeyDef.{KeyDef}
 use Rattle.sa_table.specs.Table.{value_in, key_tuple}
 use Rattle.sa_table.specs.AddRow.{is_null, same_tuple, kept_value, collides}
-use Rattle.sa_table.specs.inner.Digest.{mixed, value_digest, digest_from, digest_of}
+use Rattle.sa_table.specs.inner.Digest.{value_digest, digest_from, digest_of}
 
 order_kept : (a b : Value) → order_of (kept_value a) b ≡ order_of a b
 order_kept Null b = refl
@@ -171,7 +169,7 @@ collides_with_both key row one other e f =
     let first : map kept_value (key_tuple key.parts row) ≡ map kept_value (key_tuple key.parts one) = kept_from_same _ _ (both_second (not (list_any is_null (key_tuple key.parts row))) (same_tuple (key_tuple key.parts row) (key_tuple key.parts one)) e) in
     let second : map kept_value (key_tuple key.parts row) ≡ map kept_value (key_tuple key.parts other) = kept_from_same _ _ (both_second (not (list_any is_null (key_tuple key.parts row))) (same_tuple (key_tuple key.parts row) (key_tuple key.parts other)) f) in
     let whole : not (list_any is_null (key_tuple key.parts other)) ≡ true =
-        ap not (sym (nulls-kept (key_tuple key.parts other)) ∙ ap (list_any is_null) (sym second) ∙ nulls-kept (key_tuple key.parts row))
-        ∙ both_first (not (list_any is_null (key_tuple key.parts row))) (same_tuple (key_tuple key.parts row) (key_tuple key.parts other)) f in
+    ap not (sym (nulls-kept (key_tuple key.parts other)) ∙ ap (list_any is_null) (sym second) ∙ nulls-kept (key_tuple key.parts row))
+    ∙ both_first (not (list_any is_null (key_tuple key.parts row))) (same_tuple (key_tuple key.parts row) (key_tuple key.parts other)) f in
     ap (λ all. all && same_tuple (key_tuple key.parts other) (key_tuple key.parts one)) whole
     ∙ same_from_kept (key_tuple key.parts other) (key_tuple key.parts one) (sym second ∙ first)

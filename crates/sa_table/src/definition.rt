@@ -10,8 +10,11 @@ use crate::stored::StoredTable;
 
 /// The limits of a definition.
 const MOST_TABLES: usize = 32;
+
 const MOST_COLUMNS: usize = 32;
+
 const MOST_KEYS: usize = 8;
+
 const MOST_PARTS: usize = 4;
 
 /// The first fault of a definition that is to stand beside these tables.
@@ -26,13 +29,11 @@ pub(crate) fn table_fault(tables: &[StoredTable], def: &TableDef) -> Option<Tabl
 
 /// The first limit that a definition passes.
 fn limit_fault(tables: &[StoredTable], def: &TableDef) -> Option<TableFault>
-    ensures {
-        result ≡ first (
-            told (nat_le 32 (length tables.now)) TableFault.TooManyTables
-            ++ told (nat_lt 32 (length def.now.columns)) TableFault.TooManyColumns
-            ++ told (nat_lt 8 (length def.now.keys)) TableFault.TooManyKeys
-            ++ told (list_any (λ key. nat_lt 4 (length key.parts)) def.now.keys) TableFault.TooManyParts)
-    }
+    ensures { result ≡ first (
+        told (nat_le 32 (length tables.now)) TableFault.TooManyTables
+        ++ told (nat_lt 32 (length def.now.columns)) TableFault.TooManyColumns
+        ++ told (nat_lt 8 (length def.now.keys)) TableFault.TooManyKeys
+        ++ told (list_any (λ key. nat_lt 4 (length key.parts)) def.now.keys) TableFault.TooManyParts) }
 {
     if tables.len() >= MOST_TABLES {
         Some(TableFault::TooManyTables)
@@ -49,13 +50,11 @@ fn limit_fault(tables: &[StoredTable], def: &TableDef) -> Option<TableFault>
 
 /// The first fault of the names of a definition and of what they name.
 fn name_fault(tables: &[StoredTable], def: &TableDef) -> Option<TableFault>
-    ensures {
-        result ≡ first (
-            told (has_duplicate_name tables.now def.now) TableFault.DuplicateName
-            ++ told (list_any (λ key. list_any (nat_le (length def.now.columns)) key.parts) def.now.keys)
-                TableFault.UnknownColumn
-            ++ told (nat_lt 1 (count_by (λ key. key.primary) def.now.keys)) TableFault.SecondPrimary)
-    }
+    ensures { result ≡ first (
+        told (has_duplicate_name tables.now def.now) TableFault.DuplicateName
+        ++ told (list_any (λ key. list_any (nat_le (length def.now.columns)) key.parts) def.now.keys)
+        TableFault.UnknownColumn
+        ++ told (nat_lt 1 (count_by (λ key. key.primary) def.now.keys)) TableFault.SecondPrimary) }
 {
     if has_duplicate_name(tables, def) {
         Some(TableFault::DuplicateName)
@@ -186,8 +185,7 @@ fn is_part(column: usize, key: &KeyDef) -> bool
 fn is_primary_part(keys: &[KeyDef], column: usize) -> bool
     ensures { result ≡ is_primary_part keys.now column }
 {
-    keys.iter()
-        .any(|key| key.primary && is_part(column, key))
+    keys.iter().any(|key| key.primary && is_part(column, key))
 }
 
 /// The columns, with those of the primary key NOT NULL.

@@ -50,10 +50,8 @@ impl Store {
         requires other_there { other < self.now.count }
         requires wide { length row.now ≡ vec_len self.now.columns }
         requires parts_there { All (λ part. part < vec_len self.now.columns) parts.now }
-        ensures {
-            result ≡ same_tuple (key_tuple parts.now row.now)
-                (key_tuple parts.now (row_in self.now.columns.items other))
-        }
+        ensures { result ≡ same_tuple (key_tuple parts.now row.now)
+            (key_tuple parts.now (row_in self.now.columns.items other)) }
     {
         for part in parts {
             let stored = self.cell(other, *part);

@@ -132,7 +132,12 @@ impl StoredTable {
         self.store.reserve(row.as_slice())?;
         reserve_indexes(&mut self.indexes, self.def.keys.as_slice())?;
         let number = self.store.count;
-        push_digests(&mut self.indexes, self.def.keys.as_slice(), row.as_slice(), number);
+        push_digests(
+            &mut self.indexes,
+            self.def.keys.as_slice(),
+            row.as_slice(),
+            number,
+        );
         self.store.push(alloc, row.into_vec());
         Ok(number)
     }

@@ -69,9 +69,7 @@ impl Tables {
         ensures ok { OnOk result (self.new ≡ slice_set self.old table (with_row (table_at self.old table) row)) }
         ensures number { IfOk result (λ number. number ≡ row_count self.old table) }
         ensures faultless { OnOk result (row_faults (table_at self.old table) row ≡ []) }
-        ensures fault {
-            IfErr result (λ f. f ≡ first_or RowFault.OutOfMemory (row_faults (table_at self.old table) row))
-        }
+        ensures fault { IfErr result (λ f. f ≡ first_or RowFault.OutOfMemory (row_faults (table_at self.old table) row)) }
         ensures err { OnErr result (self.new ≡ self.old) }
     {
         self.tables[table as usize].add_row(self.alloc, row)

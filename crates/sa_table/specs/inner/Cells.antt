@@ -1,5 +1,5 @@
 -- What the lists of a column's cells stand for, and what room they have.
-use Rattle.std.specs.Prelude.{◌≡◌, ℕ, ◌+◌, ◌<◌, ◌≤◌, List, [], ◌∷◌, Bool, true, false, if◌then◌else◌, Option, Some, None, vec_len}
+use Rattle.std.specs.Prelude.{◌≡◌, ◌<◌, List, [], ◌∷◌, Bool, if◌then◌else◌, Option, Some, None, vec_len}
 use Rattle.std.specs.Bool.{OnTrue}
 use Rattle.std.specs.Vec.{vec_capacity}
 use Rattle.sa_table.specs.declared.cells.Cells.{Cells}

@@ -1,5 +1,5 @@
 -- What an index says of rows, and how it takes one more.
-use Rattle.std.specs.Prelude.{◌≡◌, ℕ, nat_eq, ◌+◌, ◌<◌, List, [], ◌∷◌, ◌++◌, if◌then◌else◌, Option, Some, None, unwrap_or, vec_len}
+use Rattle.std.specs.Prelude.{◌≡◌, ℕ, nat_eq, ◌+◌, ◌<◌, [], ◌∷◌, ◌++◌, if◌then◌else◌, Option, Some, None, unwrap_or, vec_len}
 use Rattle.std.specs.Vec.{vec_capacity}
 use Rattle.std.specs.HashMap.{get, spare}
 use Rattle.sa_table.specs.declared.index.Index.{Index}

@@ -1,5 +1,5 @@
 -- How an index finds the rows of a key.
-use Rattle.std.specs.Prelude.{◌≡◌, ◌≢◌, ℕ, ◌-◌, ◌<◌, ◌≤◌, List, [], length, Bool, true, All, Option, Some, slice_index, slice_index_or, vec_len}
+use Rattle.std.specs.Prelude.{◌≡◌, ◌≢◌, ℕ, ◌-◌, ◌<◌, ◌≤◌, List, [], length, true, All, Option, Some, slice_index, slice_index_or, vec_len}
 use Rattle.sa_value.specs.declared.value.Value.{Value}
 use Rattle.sa_table.specs.declared.def.KeyDef.{KeyDef}
 use Rattle.sa_table.specs.declared.index.Index.{Index}

@@ -1,8 +1,7 @@
 -- The rows that columns stand for, and how they take one more.
-use Rattle.std.specs.Prelude.{◌≡◌, ℕ, ◌+◌, ◌<◌, List, [], ◌∷◌, ◌++◌, map, length, All, slice_index_or, vec_len}
+use Rattle.std.specs.Prelude.{◌≡◌, ℕ, ◌<◌, List, [], ◌∷◌, ◌++◌, map, length, All, slice_index_or, vec_len}
 use Rattle.std.specs.List.{range_with_len, zip}
 use Rattle.sa_value.specs.declared.value.Value.{Value}
-use Rattle.sa_value.specs.declared.value.Value.TheVariants.{Null}
 use Rattle.sa_table.specs.declared.def.ColumnDef.{ColumnDef}
 use Rattle.sa_table.specs.declared.def.ColumnKind.{ColumnKind}
 use Rattle.sa_table.specs.declared.column.Column.{Column}

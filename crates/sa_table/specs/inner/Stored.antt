@@ -1,5 +1,5 @@
 -- The table that the fields of a stored one stand for.
-use Rattle.std.specs.Prelude.{◌≡◌, ℕ, ◌<◌, ◌≤◌, List, [], length, false, AllPairs, All, vec_len, slice_index_or}
+use Rattle.std.specs.Prelude.{◌≤◌, List, length, All}
 use Rattle.sa_table.specs.declared.def.TableDef.{TableDef}
 use Rattle.sa_table.specs.declared.index.Index.{Index}
 use Rattle.sa_table.specs.declared.store.Store.{Store}

@@ -1,5 +1,5 @@
-use Rattle.std.proofs.Common.{◌≡◌, drop, nat_eq}
-use Rattle.sa_table.specs.Create.{any_alike, same_name, same_key_name}
+use Rattle.std.proofs.Common.{◌≡◌, drop}
+use Rattle.sa_table.specs.Create.{any_alike, same_name}
 use Rattle.sa_table.proofs.definition.has_column_twice.Given as goal
 
 abbrev pub invariant-loop-number : goal.invariant-loop-number

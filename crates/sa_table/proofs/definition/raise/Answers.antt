@@ -5,4 +5,4 @@ use Rattle.sa_table.proofs.definition.raise.Goals as goal
 pub returns : goal.returns
 returns c =
     all_raised c.args.keys.now c.loop-number.columns.items c.args.columns.items (omega arith)
-        (λ k d h. c.loop-number.invariant.raised k d (omega arith))
+    (λ k d h. c.loop-number.invariant.raised k d (omega arith))

@@ -1,4 +1,4 @@
-use Rattle.std.proofs.Common.{◌≡◌, ℕ, ◌<◌, vec_len, get_or, [], true}
+use Rattle.std.proofs.Common.{◌≡◌, ℕ, ◌<◌, vec_len, get_or, []}
 use Rattle.sa_table.specs.declared.def.KeyDef.{KeyDef}
 use Rattle.sa_table.specs.declared.index.Index.{Index}
 use Rattle.sa_table.specs.inner.Keys.{IsIndexed}

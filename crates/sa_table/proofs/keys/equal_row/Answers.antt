@@ -1,7 +1,6 @@
-use Rattle.std.proofs.Common.{◌≡◌, ◌∙◌, ◌<◌, ◌≤◌, ◌-◌, ℕ, List, [], length, get_or, Bool, true, false, Some, None, sym, ap, subst, arith, ⊎_elim}
+use Rattle.std.proofs.Common.{◌≡◌, ◌∙◌, ◌<◌, ◌-◌, [], length, get_or, true, false, Some, None, sym, ap, subst, arith, ⊎_elim}
 use Rattle.std.proofs.lemmas.Bool.{cases_eq}
 use Rattle.std.proofs.lemmas.List.FromFn.{length-map-range_with_len}
-use Rattle.sa_value.specs.declared.value.Value.{Value}
 use Rattle.sa_table.specs.Table.{key_tuple}
 use Rattle.sa_table.specs.AddRow.{collides, same_tuple}
 use Rattle.sa_table.specs.inner.Digest.{digest_of}
@@ -46,14 +45,14 @@ loop-bound-preserved c =
     let is : digest_of (key_tuple key.parts row) ≡ Some digest = ap (λ parts. digest_of (key_tuple parts row)) (sym c.as_slice-parts.ensures) ∙ sym c.in_ok-digest.ensures in
     let there : other < c.args.store.now.count = omega (arith, c.loop-bound.invariant.within) in
     let last : IsAfterLast key.parts rows digest other c.before-bound.result =
-        subst (λ given. IsAfterLast key.parts rows digest other given) (sym c.before-bound.ensures) (c.requires.indexed.before other digest (omega arith) (c.loop-bound.invariant.last c.loop-bound-test.true ∙ is)) in
+    subst (λ given. IsAfterLast key.parts rows digest other given) (sym c.before-bound.ensures) (c.requires.indexed.before other digest (omega arith) (c.loop-bound.invariant.last c.loop-bound-test.true ∙ is)) in
     let differs : collides key row (get_or rows other []) ≡ false =
-        collides_with_digest key row (get_or rows other []) digest is
-        ∙ ap (λ at. same_tuple (key_tuple key.parts row) (key_tuple key.parts at)) (rows_of_at columns c.args.store.now.count other [] there)
-        ∙ ap (λ parts. same_tuple (key_tuple parts row) (key_tuple parts (row_in columns other))) (sym c.as_slice-parts.ensures)
-        ∙ sym c.has_equal.ensures ∙ c.if-has_equal.false in
+    collides_with_digest key row (get_or rows other []) digest is
+    ∙ ap (λ at. same_tuple (key_tuple key.parts row) (key_tuple key.parts at)) (rows_of_at columns c.args.store.now.count other [] there)
+    ∙ ap (λ parts. same_tuple (key_tuple parts row) (key_tuple parts (row_in columns other))) (sym c.as_slice-parts.ensures)
+    ∙ sym c.has_equal.ensures ∙ c.if-has_equal.false in
     let none : NoneFrom key rows row other = λ k from to.
-        ⊎_elim (λ same. ap (λ at. collides key row (get_or rows at [])) same ∙ differs) (λ apart. c.loop-bound.invariant.none k (omega arith) to) (cases_eq k other) in
+    ⊎_elim (λ same. ap (λ at. collides key row (get_or rows at [])) same ∙ differs) (λ apart. c.loop-bound.invariant.none k (omega arith) to) (cases_eq k other) in
     record {
       within = omega (arith, last.within);
       last = λ some. last.last some ∙ sym is;
@@ -72,10 +71,10 @@ returns-then-has_equal c =
     let is : digest_of (key_tuple key.parts row) ≡ Some digest = ap (λ parts. digest_of (key_tuple parts row)) (sym c.as_slice-parts.ensures) ∙ sym c.in_ok-digest.ensures in
     let there : other < c.args.store.now.count = omega (arith, c.loop-bound.invariant.within) in
     let stands : collides key row (get_or rows other []) ≡ true =
-        collides_with_digest key row (get_or rows other []) digest is
-        ∙ ap (λ at. same_tuple (key_tuple key.parts row) (key_tuple key.parts at)) (rows_of_at columns c.args.store.now.count other [] there)
-        ∙ ap (λ parts. same_tuple (key_tuple parts row) (key_tuple parts (row_in columns other))) (sym c.as_slice-parts.ensures)
-        ∙ sym c.has_equal.ensures ∙ c.if-has_equal.true in
+    collides_with_digest key row (get_or rows other []) digest is
+    ∙ ap (λ at. same_tuple (key_tuple key.parts row) (key_tuple key.parts at)) (rows_of_at columns c.args.store.now.count other [] there)
+    ∙ ap (λ parts. same_tuple (key_tuple parts row) (key_tuple parts (row_in columns other))) (sym c.as_slice-parts.ensures)
+    ∙ sym c.has_equal.ensures ∙ c.if-has_equal.true in
     sym (position_is (collides key row) rows other [] (omega arith) stands (others_differ key rows row other c.requires.unique c.requires.searchable.distinct (omega arith) stands))
 
 pub returns : goal.returns

@@ -1,4 +1,4 @@
-use Rattle.std.proofs.Common.{◌≡◌, sym, ◌∙◌, ap, Some, arith}
+use Rattle.std.proofs.Common.{sym, ◌∙◌, ap, Some, arith}
 use Rattle.sa_table.proofs.CellsLemmas.{null_at, item_at}
 use Rattle.sa_table.proofs.cells.Cells.get.Goals as goal
 

@@ -1,4 +1,4 @@
-use Rattle.std.proofs.Common.{◌≡◌, ◌∙◌, ◌++◌, ◌∷◌, [], length, ap, arith, None}
+use Rattle.std.proofs.Common.{◌∙◌, ◌++◌, ◌∷◌, [], ap, arith, None}
 use Rattle.sa_table.proofs.CellsLemmas.{padded, null_pushed}
 use Rattle.sa_table.proofs.cells.Cells.push_null.Goals as goal
 

@@ -1,7 +1,6 @@
-use Rattle.std.proofs.Common.{◌≡◌, ◌≢◌, ◌∙◌, sym, ap, subst, get_or, arith}
+use Rattle.std.proofs.Common.{◌≢◌, ◌∙◌, subst, arith}
 use Rattle.std.proofs.lemmas.List.{get_or_read, get_or-set_other}
 use Rattle.sa_value.specs.declared.value.Value.TheVariants.{Null}
-use Rattle.sa_table.specs.declared.column.Column.{Column}
 use Rattle.sa_table.specs.Table.{value_in}
 use Rattle.sa_table.specs.inner.Store.{TakesValue}
 use Rattle.sa_table.proofs.StoreLemmas.{rows_pushed, taken_more}
@@ -17,12 +16,12 @@ loop-column-preserved c =
       wide = c.loop-column.invariant.wide;
       long = c.loop-column.invariant.long;
       taken = taken_more old now c.args.row.items i c.push.new.self (omega arith) c.loop-column.invariant.taken
-        (λ column.
-            subst (λ was. TakesValue was c.push.new.self (value_in c.args.row.items i))
-            (get_or_read now i _ (omega arith) c.index_mut-in-loop-column.ensures.value column ∙ c.loop-column.invariant.left i column (omega arith))
-            (subst (λ value. TakesValue c.index_mut-in-loop-column.result.now c.push.new.self value)
-                (c.replace-value.ensures.value ∙ get_or_read c.loop-column.row.items i _ (omega arith) c.index_mut.ensures.value Null ∙ c.loop-column.invariant.values i Null (omega arith))
-                record { values = c.push.ensures.values; kinds = c.push.ensures.kind }));
+          (λ column.
+          subst (λ was. TakesValue was c.push.new.self (value_in c.args.row.items i))
+          (get_or_read now i _ (omega arith) c.index_mut-in-loop-column.ensures.value column ∙ c.loop-column.invariant.left i column (omega arith))
+          (subst (λ value. TakesValue c.index_mut-in-loop-column.result.now c.push.new.self value)
+          (c.replace-value.ensures.value ∙ get_or_read c.loop-column.row.items i _ (omega arith) c.index_mut.ensures.value Null ∙ c.loop-column.invariant.values i Null (omega arith))
+          record { values = c.push.ensures.values; kinds = c.push.ensures.kind }));
       left = λ k column h. let apart : k ≢ i = omega arith in get_or-set_other now i k c.push.new.self column apart ∙ c.loop-column.invariant.left k column (omega arith);
       values = λ k value h. let apart : k ≢ i = omega arith in get_or-set_other c.loop-column.row.items i k c.replace-value.new.dest value apart ∙ c.loop-column.invariant.values k value (omega arith);
     }
@@ -31,9 +30,9 @@ pub returns-clause-rows : goal.returns-clause-rows
 returns-clause-rows c =
     rw c.loop-column.invariant.count
     (rows_pushed c.args.self.now.columns.items c.loop-column.self.columns.items c.args.row.items c.args.self.now.count
-        record {
-          wide = omega arith;
-          values = omega arith;
-          filled = λ k column h. c.requires.filled k column h;
-          each = λ k column h. (c.loop-column.invariant.taken k column (omega arith)).values;
-        })
+    record {
+      wide = omega arith;
+      values = omega arith;
+      filled = λ k column h. c.requires.filled k column h;
+      each = λ k column h. (c.loop-column.invariant.taken k column (omega arith)).values;
+    })

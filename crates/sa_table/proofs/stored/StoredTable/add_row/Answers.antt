@@ -1,7 +1,6 @@
-use Rattle.std.proofs.Common.{◌≡◌, ◌∙◌, ◌<◌, ◌++◌, ◌∷◌, [], List, Option, Some, None, map, take, drop, length, sym, ap, subst, arith}
+use Rattle.std.proofs.Common.{◌≡◌, ◌∙◌, ◌++◌, ◌∷◌, [], List, take, drop, length, sym, ap, subst, arith}
 use Rattle.std.proofs.lemmas.List.FromFn.{length-map-range_with_len}
 use Rattle.std.specs.Prelude.{All}
-use Rattle.sa_value.specs.declared.value.Value.{Value}
 use Rattle.sa_table.specs.declared.index.Index.{Index}
 use Rattle.sa_table.specs.Table.{Table}
 use Rattle.sa_table.specs.AddRow.{with_row}
@@ -85,16 +84,16 @@ invariant_of-self-2 c =
     let mid = c.reserve.new.self in
     let others = c.push_digests.new.indexes in
     let adds : AddDigests inside.def.keys c.args.row mid.count between others =
-        subst (λ was. AddDigests inside.def.keys c.args.row mid.count was others) (c.deref_mut-2.ensures.value ∙ back)
-        (subst (λ keys. AddDigests keys c.args.row mid.count c.deref_mut-2.result.now others) c.as_slice-4.ensures
-        (subst (λ row. AddDigests c.as_slice-4.result.now row mid.count c.deref_mut-2.result.now others) c.as_slice-5.ensures c.push_digests.ensures)) in
+    subst (λ was. AddDigests inside.def.keys c.args.row mid.count was others) (c.deref_mut-2.ensures.value ∙ back)
+    (subst (λ keys. AddDigests keys c.args.row mid.count c.deref_mut-2.result.now others) c.as_slice-4.ensures
+    (subst (λ row. AddDigests c.as_slice-4.result.now row mid.count c.deref_mut-2.result.now others) c.as_slice-5.ensures c.push_digests.ensures)) in
     let grown : Grows inside.def inside.store c.push.new.self c.args.row others =
-        grows inside.def inside.store mid c.push.new.self c.args.row inside.indexes.items between others c.self.invariant is c.reserve.ensures.same index
-            (subst (λ row. rows_in c.push.new.self ≡ rows_in mid ++ held_row mid.columns.items row ∷ []) c.into_vec.ensures c.push.ensures.rows)
-            c.push.ensures.filled c.push.ensures.kinds c.push.ensures.wide adds in
+    grows inside.def inside.store mid c.push.new.self c.args.row inside.indexes.items between others c.self.invariant is c.reserve.ensures.same index
+    (subst (λ row. rows_in c.push.new.self ≡ rows_in mid ++ held_row mid.columns.items row ∷ []) c.into_vec.ensures c.push.ensures.rows)
+    c.push.ensures.filled c.push.ensures.kinds c.push.ensures.wide adds in
     let once : List Index = take inside.indexes.len (between ++ drop (length between) inside.indexes.items) in
     let back_again : take inside.indexes.len (others ++ drop (length others) once) ≡ others =
-        written_back inside.indexes.len once others (omega (arith, ap length back, index.each_one)) (adds.each_one ∙ sym (ap length back)) in
+    written_back inside.indexes.len once others (omega (arith, ap length back, index.each_one)) (adds.each_one ∙ sym (ap length back)) in
     subst (λ others. Keeps inside.def c.push.new.self others) (sym back_again) grown.keeps
 
 pub returns-clause-ok : goal.returns-clause-ok
@@ -107,13 +106,13 @@ returns-clause-ok c =
     let mid = c.reserve.new.self in
     let others = c.push_digests.new.indexes in
     let adds : AddDigests inside.def.keys c.args.row mid.count between others =
-        subst (λ was. AddDigests inside.def.keys c.args.row mid.count was others) (c.deref_mut-2.ensures.value ∙ back)
-        (subst (λ keys. AddDigests keys c.args.row mid.count c.deref_mut-2.result.now others) c.as_slice-4.ensures
-        (subst (λ row. AddDigests c.as_slice-4.result.now row mid.count c.deref_mut-2.result.now others) c.as_slice-5.ensures c.push_digests.ensures)) in
+    subst (λ was. AddDigests inside.def.keys c.args.row mid.count was others) (c.deref_mut-2.ensures.value ∙ back)
+    (subst (λ keys. AddDigests keys c.args.row mid.count c.deref_mut-2.result.now others) c.as_slice-4.ensures
+    (subst (λ row. AddDigests c.as_slice-4.result.now row mid.count c.deref_mut-2.result.now others) c.as_slice-5.ensures c.push_digests.ensures)) in
     let grown : Grows inside.def inside.store c.push.new.self c.args.row others =
-        grows inside.def inside.store mid c.push.new.self c.args.row inside.indexes.items between others c.self.invariant is c.reserve.ensures.same index
-            (subst (λ row. rows_in c.push.new.self ≡ rows_in mid ++ held_row mid.columns.items row ∷ []) c.into_vec.ensures c.push.ensures.rows)
-            c.push.ensures.filled c.push.ensures.kinds c.push.ensures.wide adds in
+    grows inside.def inside.store mid c.push.new.self c.args.row inside.indexes.items between others c.self.invariant is c.reserve.ensures.same index
+    (subst (λ row. rows_in c.push.new.self ≡ rows_in mid ++ held_row mid.columns.items row ∷ []) c.into_vec.ensures c.push.ensures.rows)
+    c.push.ensures.filled c.push.ensures.kinds c.push.ensures.wide adds in
     ap (table_of inside.def) grown.rows ∙ ap (λ table. with_row table c.args.row) c.self.view_is
 
 pub returns-clause-number : goal.returns-clause-number
@@ -131,11 +130,11 @@ returns-clause-sound c =
     let mid = c.reserve.new.self in
     let others = c.push_digests.new.indexes in
     let adds : AddDigests inside.def.keys c.args.row mid.count between others =
-        subst (λ was. AddDigests inside.def.keys c.args.row mid.count was others) (c.deref_mut-2.ensures.value ∙ back)
-        (subst (λ keys. AddDigests keys c.args.row mid.count c.deref_mut-2.result.now others) c.as_slice-4.ensures
-        (subst (λ row. AddDigests c.as_slice-4.result.now row mid.count c.deref_mut-2.result.now others) c.as_slice-5.ensures c.push_digests.ensures)) in
+    subst (λ was. AddDigests inside.def.keys c.args.row mid.count was others) (c.deref_mut-2.ensures.value ∙ back)
+    (subst (λ keys. AddDigests keys c.args.row mid.count c.deref_mut-2.result.now others) c.as_slice-4.ensures
+    (subst (λ row. AddDigests c.as_slice-4.result.now row mid.count c.deref_mut-2.result.now others) c.as_slice-5.ensures c.push_digests.ensures)) in
     let grown : Grows inside.def inside.store c.push.new.self c.args.row others =
-        grows inside.def inside.store mid c.push.new.self c.args.row inside.indexes.items between others c.self.invariant is c.reserve.ensures.same index
-            (subst (λ row. rows_in c.push.new.self ≡ rows_in mid ++ held_row mid.columns.items row ∷ []) c.into_vec.ensures c.push.ensures.rows)
-            c.push.ensures.filled c.push.ensures.kinds c.push.ensures.wide adds in
+    grows inside.def inside.store mid c.push.new.self c.args.row inside.indexes.items between others c.self.invariant is c.reserve.ensures.same index
+    (subst (λ row. rows_in c.push.new.self ≡ rows_in mid ++ held_row mid.columns.items row ∷ []) c.into_vec.ensures c.push.ensures.rows)
+    c.push.ensures.filled c.push.ensures.kinds c.push.ensures.wide adds in
     grown.keeps.sound

@@ -1,4 +1,4 @@
-use Rattle.std.proofs.Common.{◌≡◌, ◌∙◌, ◌<◌, [], sym, ap, length, get_or, arith}
+use Rattle.std.proofs.Common.{◌∙◌, ◌<◌, [], sym, ap, length, get_or, arith}
 use Rattle.std.proofs.lemmas.List.FromFn.{length-map-range_with_len}
 use Rattle.sa_table.specs.Table.{Table, value_in}
 use Rattle.sa_table.specs.inner.Store.{row_in}

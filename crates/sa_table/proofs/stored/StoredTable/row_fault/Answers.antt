@@ -1,4 +1,4 @@
-use Rattle.std.proofs.Common.{◌≡◌, ◌∙◌, ◌<◌, ◌≤◌, [], Some, None, sym, ap, subst, length, true, arith}
+use Rattle.std.proofs.Common.{◌≡◌, ◌∙◌, sym, ap, subst, length, true, arith}
 use Rattle.std.proofs.lemmas.List.FromFn.{length-map-range_with_len}
 use Rattle.std.specs.Prelude.{All}
 use Rattle.sa_table.specs.Table.{Table, is_unique}
@@ -29,15 +29,15 @@ returns-in-Some c =
     let store = c.self.inside.store in
     let table : Table = record { def = c.self.inside.def; rows = rows_in store } in
     column_first table c.args.row.now c.in-Some.fault (omega (arith, length-map-range_with_len (row_in store.columns.items) 0 store.count)) (c.if-row-columns.false ∙ ap length c.as_slice-columns.ensures)
-        (ap (λ columns. first (column_faults columns c.args.row.now)) (sym c.as_slice-columns.ensures) ∙ sym c.in-Some.ensures)
+    (ap (λ columns. first (column_faults columns c.args.row.now)) (sym c.as_slice-columns.ensures) ∙ sym c.in-Some.ensures)
     ∙ ap (λ table. first (row_faults table c.args.row.now)) c.self.view_is
 
 pub key_fault-requires-clause-searchable : goal.key_fault-requires-clause-searchable
 key_fault-requires-clause-searchable c =
     let inside = c.self.inside in
     subst (λ keys. All (λ key. is_unique key ≡ true → IsSearchable inside.store key c.args.row.now) keys) (sym c.as_slice.ensures)
-        (searchable inside.def inside.store inside.indexes.items c.args.row.now c.self.invariant (c.if-row-columns.false ∙ ap length c.as_slice-columns.ensures)
-            (nil_from_first _ (ap (λ columns. first (column_faults columns c.args.row.now)) (sym c.as_slice-columns.ensures) ∙ sym c.column_fault.ensures ∙ c.in_default.is)))
+    (searchable inside.def inside.store inside.indexes.items c.args.row.now c.self.invariant (c.if-row-columns.false ∙ ap length c.as_slice-columns.ensures)
+    (nil_from_first _ (ap (λ columns. first (column_faults columns c.args.row.now)) (sym c.as_slice-columns.ensures) ∙ sym c.column_fault.ensures ∙ c.in_default.is)))
 
 pub returns : goal.returns
 returns c =
@@ -46,5 +46,5 @@ returns c =
     c.key_fault.ensures
     ∙ ap (λ keys. first (key_faults keys (rows_in store) c.args.row.now)) c.as_slice.ensures
     ∙ key_first table c.args.row.now (omega (arith, length-map-range_with_len (row_in store.columns.items) 0 store.count)) (c.if-row-columns.false ∙ ap length c.as_slice-columns.ensures)
-        (ap (λ columns. first (column_faults columns c.args.row.now)) (sym c.as_slice-columns.ensures) ∙ sym c.column_fault.ensures ∙ c.in_default.is)
+    (ap (λ columns. first (column_faults columns c.args.row.now)) (sym c.as_slice-columns.ensures) ∙ sym c.column_fault.ensures ∙ c.in_default.is)
     ∙ ap (λ table. first (row_faults table c.args.row.now)) c.self.view_is
