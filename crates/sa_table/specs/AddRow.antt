@@ -1,5 +1,5 @@
 -- Which faults a row has, in the order in which they are told, and what is kept of it.
-use Rattle.std.specs.Prelude.{ℕ, ℤ, pos, negsuc, List, [], ◌∷◌, ◌++◌, map, length, Bool, true, false, ◌||◌, ◌&&◌, not, ◌==◌, nat_lt, nat_le, int_le, if◌then◌else◌, Option, Some, None}
+use Rattle.std.specs.Prelude.{ℕ, ℤ, pos, negsuc, List, [], ◌∷◌, ◌++◌, map, length, Bool, true, false, ◌||◌, ◌&&◌, not, ◌==◌, nat_lt, nat_le, int_le, Option, Some, None}
 use Rattle.std.specs.List.{flat_map, list_any, enumerate_from, filter, zip, position}
 use Rattle.std.specs.Cmp.Lexicographic.{pointwise}
 use Rattle.std.specs.Ordering.{is_eq}
@@ -7,7 +7,6 @@ use Rattle.std.specs.Str.{chars}
 use Rattle.sa_value.specs.declared.value.Value.{Value}
 use Rattle.sa_value.specs.declared.value.Value.TheVariants.{Null, Int, Big, Text}
 use Rattle.sa_value.specs.Compare.{order_of}
-use Rattle.sa_table.specs.declared.def.TableDef.{TableDef}
 use Rattle.sa_table.specs.declared.def.ColumnDef.{ColumnDef}
 use Rattle.sa_table.specs.declared.def.ColumnKind.{ColumnKind}
 use Rattle.sa_table.specs.declared.def.ColumnKind.TheVariants as kinds

@@ -1,11 +1,11 @@
 -- Which faults a table's definition has, in the order in which they are told.
-use Rattle.std.specs.Prelude.{ℕ, List, [], ◌∷◌, ◌++◌, map, length, Bool, true, false, ◌||◌, ◌&&◌, not, ◌==◌, nat_lt, nat_le, nat_eq, if◌then◌else◌, count_by}
+use Rattle.std.specs.Prelude.{ℕ, List, [], ◌∷◌, ◌++◌, length, Bool, false, ◌||◌, ◌&&◌, not, nat_lt, nat_le, nat_eq, if◌then◌else◌, count_by}
 use Rattle.std.specs.List.{list_any}
 use Rattle.std.specs.Cmp.Lexicographic.{pointwise}
 use Rattle.sa_table.specs.declared.def.TableDef.{TableDef}
 use Rattle.sa_table.specs.declared.def.KeyDef.{KeyDef}
 use Rattle.sa_table.specs.declared.fault.TableFault.{TableFault}
-use Rattle.sa_table.specs.declared.fault.TableFault.TheVariants.{TooManyTables, TooManyColumns, TooManyKeys, TooManyParts, DuplicateName, UnknownColumn, SecondPrimary, OutOfMemory}
+use Rattle.sa_table.specs.declared.fault.TableFault.TheVariants.{TooManyTables, TooManyColumns, TooManyKeys, TooManyParts, DuplicateName, UnknownColumn, SecondPrimary}
 use Rattle.sa_table.specs.Table.{Table}
 
 -- whether two names are the same, byte for byte

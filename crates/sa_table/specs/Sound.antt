@@ -1,7 +1,7 @@
 -- What is true of all tables, whatever was put into them.
-use Rattle.std.specs.Prelude.{◌≡◌, ℕ, ◌<◌, ◌≤◌, List, [], length, Bool, true, false, ⊤, All, AllPairs, slice_index_or}
+use Rattle.std.specs.Prelude.{◌≡◌, ℕ, ◌<◌, ◌≤◌, List, [], length, true, false, ⊤, All, AllPairs, slice_index_or}
 use Rattle.sa_value.specs.declared.value.Value.{Value}
-use Rattle.sa_value.specs.declared.value.Value.TheVariants.{Null, Int, Big, Text}
+use Rattle.sa_value.specs.declared.value.Value.TheVariants.{Big}
 use Rattle.sa_table.specs.declared.def.TableDef.{TableDef}
 use Rattle.sa_table.specs.declared.def.ColumnDef.{ColumnDef}
 use Rattle.sa_table.specs.declared.def.ColumnKind.TheVariants as kinds

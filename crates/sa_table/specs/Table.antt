@@ -1,5 +1,5 @@
 -- What a table is: its definition and its rows.
-use Rattle.std.specs.Prelude.{ℕ, List, [], ◌∷◌, map, length, slice_index_or, Bool, true, false, ◌||◌, ◌&&◌, ◌==◌}
+use Rattle.std.specs.Prelude.{ℕ, List, [], map, length, slice_index_or, Bool, ◌||◌, ◌&&◌, ◌==◌}
 use Rattle.std.specs.List.{list_any, enumerate_from}
 use Rattle.sa_value.specs.declared.value.Value.{Value}
 use Rattle.sa_value.specs.declared.value.Value.TheVariants.{Null}

@@ -1,3 +1,9 @@
+ghost use Rattle.std.specs.Prelude.{◌≡◌};
+ghost use Rattle.sa_table.specs.declared.fault.RowFault.TheVariants as row_faults;
+ghost use Rattle.sa_table.specs.declared.fault.TableFault.TheVariants as table_faults;
+
+use sa_value::OutOfMemory;
+use std::alloc::AllocError;
 use thiserror::Error;
 
 /// Why a table can't be made. Where several reasons stand, the first of this list is told.
@@ -42,4 +48,28 @@ pub enum RowFault {
     DuplicateKey { row: u32 },
     #[error("out of memory")]
     OutOfMemory,
+}
+
+impl From<OutOfMemory> for TableFault {
+    ghost from_gives = { λ _ fault. fault ≡ table_faults.OutOfMemory };
+
+    fn from(_error: OutOfMemory) -> TableFault {
+        TableFault::OutOfMemory
+    }
+}
+
+impl From<AllocError> for TableFault {
+    ghost from_gives = { λ _ fault. fault ≡ table_faults.OutOfMemory };
+
+    fn from(_error: AllocError) -> TableFault {
+        TableFault::OutOfMemory
+    }
+}
+
+impl From<OutOfMemory> for RowFault {
+    ghost from_gives = { λ _ fault. fault ≡ row_faults.OutOfMemory };
+
+    fn from(_error: OutOfMemory) -> RowFault {
+        RowFault::OutOfMemory
+    }
 }

@@ -4,11 +4,19 @@
 //! the cells lie in memory is nobody's business but this crate's.
 #![tactic(auto)]
 
+mod cells;
+mod column;
 mod def;
+mod definition;
+mod digest;
 mod fault;
+mod index;
+mod keys;
 mod shared;
+mod store;
 mod stored;
 mod tables;
+mod values;
 
 pub use def::{ColumnDef, ColumnDefs, ColumnKind, KeyDef, KeyDefs, Parts, TableDef};
 pub use fault::{RowFault, TableFault};

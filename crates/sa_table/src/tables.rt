@@ -1,6 +1,7 @@
 ghost use Rattle.std.specs.Prelude.{◌≡◌, ◌≢◌, ◌↔◌, ◌<◌, [], ◌∷◌, ◌++◌, length, All, IsTrue, OnOk, OnErr, IfOk, IfErr, IfSome, IfNone, slice_set};
 
 use crate::def::TableDef;
+use crate::definition::table_fault;
 use crate::fault::{RowFault, TableFault};
 use crate::stored::StoredTable;
 use sa_value::{Row, ValueRef};
@@ -38,7 +39,10 @@ impl Tables {
     pub fn new(alloc: Global) -> Tables
         ensures { result ≡ [] }
     {
-        unreachable!()
+        Tables {
+            alloc,
+            tables: Vec::new(alloc),
+        }
     }
 
     /// Makes a table without rows, and gives its number. The columns of its primary key are NOT NULL.
@@ -49,7 +53,14 @@ impl Tables {
         ensures fault { IfErr result (λ f. f ≡ first_or TableFault.OutOfMemory (table_faults self.old def)) }
         ensures err { OnErr result (self.new ≡ self.old) }
     {
-        unreachable!()
+        if let Some(fault) = table_fault(&self.tables, &def) {
+            return Err(fault);
+        }
+        self.tables.reserve(1)?;
+        let table = StoredTable::new(self.alloc, def)?;
+        let number = self.tables.len() as u32;
+        self.tables.push_reserved(table);
+        Ok(number)
     }
 
     /// Puts a row at the end of a table, and gives its number.
@@ -58,12 +69,10 @@ impl Tables {
         ensures ok { OnOk result (self.new ≡ slice_set self.old table (with_row (table_at self.old table) row)) }
         ensures number { IfOk result (λ number. number ≡ row_count self.old table) }
         ensures faultless { OnOk result (row_faults (table_at self.old table) row ≡ []) }
-        ensures fault {
-            IfErr result (λ f. f ≡ first_or RowFault.OutOfMemory (row_faults (table_at self.old table) row))
-        }
+        ensures fault { IfErr result (λ f. f ≡ first_or RowFault.OutOfMemory (row_faults (table_at self.old table) row)) }
         ensures err { OnErr result (self.new ≡ self.old) }
     {
-        unreachable!()
+        self.tables[table as usize].add_row(self.alloc, row)
     }
 
     /// How many tables there are.
@@ -71,14 +80,14 @@ impl Tables {
         ensures number { result ≡ length self.now }
         ensures sound { AreSound self.now }
     {
-        unreachable!()
+        self.tables.len() as u32
     }
 
     /// Whether there is no table.
     pub fn is_empty(&self) -> bool
         ensures { IsTrue result ↔ (self.now ≡ []) }
     {
-        unreachable!()
+        self.tables.is_empty()
     }
 
     /// The number of the table with this name, which is compared byte for byte.
@@ -87,7 +96,12 @@ impl Tables {
         ensures found { IfSome result (λ table. (table_at self.now table).def.name ≡ name.now) }
         ensures absent { IfNone result (All (λ table. table.def.name ≢ name.now) self.now) }
     {
-        unreachable!()
+        for (number, table) in self.tables.iter().enumerate() {
+            if table.has_name(name) {
+                return Some(number as u32);
+            }
+        }
+        None
     }
 
     /// What a table was made by.
@@ -95,7 +109,7 @@ impl Tables {
         requires there { table < length self.now }
         ensures { result.now ≡ (table_at self.now table).def }
     {
-        unreachable!()
+        self.tables[table as usize].def()
     }
 
     /// How many rows a table has.
@@ -103,7 +117,7 @@ impl Tables {
         requires there { table < length self.now }
         ensures { result ≡ row_count self.now table }
     {
-        unreachable!()
+        self.tables[table as usize].count()
     }
 
     /// The value of a cell.
@@ -114,6 +128,6 @@ impl Tables {
         requires column_there { column < column_count self.now table }
         ensures { value_at result ≡ cell_at self.now table row column }
     {
-        unreachable!()
+        self.tables[table as usize].cell(row, column)
     }
 }

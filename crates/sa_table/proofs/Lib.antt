@@ -1,0 +1,13 @@
+pub mod CellsLemmas
+pub mod FirstLemmas
+pub mod AlikeLemmas
+pub mod ColumnFaultLemmas
+pub mod RaisedLemmas
+pub mod StoreLemmas
+pub mod TupleLemmas
+pub mod IndexLemmas
+pub mod KeyFaultLemmas
+pub mod RowLemmas
+pub mod SameLemmas
+pub mod GrowthLemmas
+pub mod SoundLemmas

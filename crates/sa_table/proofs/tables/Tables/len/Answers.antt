@@ -1,4 +1,0 @@
-use Rattle.sa_table.proofs.tables.Tables.len.Goals as goal
-
-pub unreachable-requires : goal.unreachable-requires
-unreachable-requires c = ?
