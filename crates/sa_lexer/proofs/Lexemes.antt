@@ -138,7 +138,7 @@ between quote source =
     rw all (take_at source (quote ∷ []) (length source) refl)
 
 -- which of the three quotes it is
-text_quote : (quote : ℕ) → is_quote quote ≡ true → (quote == 96) ≡ false → (quote ≡ 39) ⊎ (quote ≡ 34)
+pub text_quote : (quote : ℕ) → is_quote quote ≡ true → (quote == 96) ≡ false → (quote ≡ 39) ⊎ (quote ≡ 34)
 text_quote quote is other = elim (or_cases (quote == 39 || quote == 34) (quote == 96) is) [
   | inl a ↦ elim (or_cases (quote == 39) (quote == 34) a) [ inl b ↦ inl (eqb-true quote 39 b) | inr b ↦ inr (eqb-true quote 34 b) ]
   | inr a ↦ absurd (let clash : true ≡ false = sym a ∙ other in cc)

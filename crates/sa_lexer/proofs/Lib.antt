@@ -1,3 +1,4 @@
+pub mod Lists
 pub mod Results
 pub mod Cuts
 pub mod Runs
@@ -14,3 +15,6 @@ pub mod Laws
 pub mod Pieces
 pub mod Again
 pub mod Unique
+pub mod OpenLemmas
+pub mod WrongLemmas
+pub mod FaultyLemmas

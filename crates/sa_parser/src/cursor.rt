@@ -11,8 +11,7 @@ mod statement;
 
 use crate::fault::ReadFault;
 use sa_ast::NameTree;
-use sa_lexer::{Sign, Token, TokenKind};
-use sa_print::is_reserved;
+use sa_lexer::{Sign, Token, TokenKind, is_reserved};
 use sa_value::Text;
 use std::alloc::Global;
 use std::marker::Model;

@@ -8,7 +8,7 @@ use Rattle.sa_lexer.specs.declared.token.TokenKind.{TokenKind}
 use Rattle.sa_lexer.specs.declared.token.TokenKind.TheVariants as kinds
 use Rattle.sa_ast.specs.declared.expression.ExprTree.{ExprTree}
 use Rattle.sa_ast.specs.declared.select.ItemTree.{ItemTree}
-use Rattle.sa_print.specs.Reserved.{is_reserved}
+use Rattle.sa_lexer.specs.Reserved.{is_reserved}
 use Rattle.sa_parser.specs.Token.{is_word, is_sign, name_of}
 use Rattle.sa_parser.specs.SelectTree.{table_star_item, value_item}
 use Rattle.sa_parser.specs.Form.{Form, Made, Then, Either, Placed, Name, Sign}

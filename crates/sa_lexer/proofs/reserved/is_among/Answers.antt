@@ -2,8 +2,9 @@ use Rattle.std.proofs.Common.{rules, refl, map, ◌≡◌, ℕ, List, [], Bor, B
 use Rattle.std.specs.List.{list_any}
 use Rattle.std.specs.Str.{str_eq_ignore_ascii_case}
 use Rattle.std.proofs.lemmas.List.Folds.{list_any_at, list_any_more}
-use Rattle.sa_print.proofs.Lists.{list_any-map, take_whole}
-use Rattle.sa_print.proofs.reserved.is_among.Goals as goal
+use Rattle.std.proofs.lemmas.List.{take_all}
+use Rattle.sa_lexer.proofs.Lists.{list_any-map}
+use Rattle.sa_lexer.proofs.reserved.is_among.Goals as goal
 
 -- what stands for a word past the end
 abbrev no_word : Bor (List ℕ)
@@ -27,5 +28,5 @@ loop-reserved-preserved c =
 
 pub returns : goal.returns
 returns c =
-    let whole : take c.loop-reserved.reserved-index c.args.words.now ≡ c.args.words.now = take_whole c.loop-reserved.reserved-index c.args.words.now (omega arith) (omega arith) in
+    let whole : take c.loop-reserved.reserved-index c.args.words.now ≡ c.args.words.now = take_all c.loop-reserved.reserved-index c.args.words.now (omega arith) in
     sym c.loop-reserved.invariant ∙ ap (list_any (is_same c.args.word.now)) whole ∙ sym (seen c.args.word.now c.args.words.now)

@@ -1,7 +1,7 @@
 ghost use Rattle.std.specs.Prelude.{◌≡◌, map};
 ghost use Rattle.std.specs.List.{list_any};
 ghost use Rattle.std.specs.Str.{str_eq_ignore_ascii_case};
-ghost use Rattle.sa_print.specs.Reserved.{is_reserved};
+ghost use Rattle.sa_lexer.specs.Reserved.{is_reserved};
 
 /// The words that are names only in backquotes.
 ///
