@@ -4,8 +4,8 @@ use Rattle.sa_lexer.specs.declared.token.Token.{Token}
 use Rattle.sa_ast.specs.declared.statement.Statement.{Statement}
 use Rattle.sa_parser.specs.Fault.{FaultyAt}
 use Rattle.sa_parser.specs.Parse.{IsStatement, IsSetup}
-use Rattle.sa_parser.specs.StatementReading.{statement_read}
-use Rattle.sa_parser.specs.SetupReading.{setup_read}
+use Rattle.sa_parser.specs.inner.StatementReading.{statement_read}
+use Rattle.sa_parser.specs.inner.SetupReading.{setup_read}
 use Rattle.sa_parser.specs.SetupGrammar.{setup}
 use Rattle.sa_parser.proofs.Consequences.{one_value, whole-is}
 use Rattle.sa_parser.proofs.Law.{Law, Ahead}

@@ -13,8 +13,8 @@ use Rattle.sa_parser.specs.Form.{Form}
 use Rattle.sa_parser.specs.Depth.{StaysFlat}
 use Rattle.sa_parser.specs.Fault.{Begins, FaultyAt, end_of}
 use Rattle.sa_parser.specs.Parse.{StaysInLevels, IsAnswer}
-use Rattle.sa_parser.specs.Answer.{IsFirstTooDeep, TellsFault}
-use Rattle.sa_parser.specs.Judgement.{FaultyBehind, IsFirstFaulty}
+use Rattle.sa_parser.specs.inner.Answer.{IsFirstTooDeep, TellsFault}
+use Rattle.sa_parser.specs.inner.Judgement.{FaultyBehind, IsFirstFaulty}
 use Rattle.sa_parser.proofs.Judging.{Begins-fewer}
 
 -- A fault that is told is an answer.

@@ -1,5 +1,5 @@
-ghost use Rattle.sa_parser.specs.Reads.{Reads};
-ghost use Rattle.sa_parser.specs.Grammar.{read_by};
+ghost use Rattle.sa_parser.specs.inner.Reads.{Reads};
+ghost use Rattle.sa_parser.specs.inner.Grammar.{read_by};
 
 use crate::cursor::Cursor;
 use crate::fault::ReadFault;

@@ -1,7 +1,7 @@
 ghost use Rattle.std.specs.Prelude.{◌≡◌, ◌≤◌, ◌↔◌, length, IfOk, IsTrue};
 ghost use Rattle.sa_parser.specs.Fault.{Begins};
-ghost use Rattle.sa_parser.specs.Grammar.{form_of};
-ghost use Rattle.sa_parser.specs.Judgement.{IsJudgement, IsFirstFaulty, whole_or_faulty};
+ghost use Rattle.sa_parser.specs.inner.Grammar.{form_of};
+ghost use Rattle.sa_parser.specs.inner.Judgement.{IsJudgement, IsFirstFaulty, whole_or_faulty};
 
 use crate::cursor::Cursor;
 use crate::fault::ReadFault;

@@ -4,7 +4,7 @@
 ghost use Rattle.std.specs.Prelude.{◌≡◌, ◌↔◌, ◌∷◌, ◌++◌, [], IfOk, IsTrue};
 ghost use Rattle.sa_parser.specs.Fault as spec;
 ghost use Rattle.sa_parser.specs.Fault.{Begins, in_place_of, ReadAsName, StandsForKind, AsksForMore};
-ghost use Rattle.sa_parser.specs.Grammar.{form_of};
+ghost use Rattle.sa_parser.specs.inner.Grammar.{form_of};
 
 use crate::copied::copied;
 use crate::cursor::name_of;

@@ -5,7 +5,6 @@
 #![tactic(auto)]
 
 mod answer;
-mod canonical;
 mod commas;
 mod copied;
 mod cursor;
@@ -33,9 +32,5 @@ mod value;
 mod words;
 
 pub use answer::ParseFault;
-pub use canonical::canonical_text_is_unique;
 pub use parser::{parse, parse_setup};
 pub use unique::{tokens_have_one_answer, tokens_have_one_tree};
-
-#[cfg(test)]
-mod tests;

@@ -1,8 +1,8 @@
 ghost use Rattle.std.specs.Prelude.{◌≡◌, ◌≤◌, length, take, drop, Err, Some, IfOk};
-ghost use Rattle.sa_parser.specs.Answer.{IsFirstTooDeep, TellsFault};
+ghost use Rattle.sa_parser.specs.inner.Answer.{IsFirstTooDeep, TellsFault};
 ghost use Rattle.sa_parser.specs.Depth.{StaysFlat};
 ghost use Rattle.sa_parser.specs.Fault as fault;
-ghost use Rattle.sa_parser.specs.Grammar.{form_of};
+ghost use Rattle.sa_parser.specs.inner.Grammar.{form_of};
 ghost use Rattle.sa_parser.specs.Parse.{IsStatement, IsSetup, IsAnswer, SetsUp};
 ghost use Rattle.sa_print.specs.Statement.{HasText};
 

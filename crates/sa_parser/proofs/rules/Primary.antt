@@ -9,10 +9,10 @@ use Rattle.sa_lexer.specs.Reserved.{is_reserved}
 use Rattle.sa_parser.specs.declared.rule.Rule.{Rule}
 use Rattle.sa_parser.specs.declared.rule.Rule.TheVariants as rule
 use Rattle.sa_parser.specs.Form.{Form, One, Either}
-use Rattle.sa_parser.specs.Reading.{Reader, one, either, sees_name}
+use Rattle.sa_parser.specs.inner.Reading.{Reader, one, either, sees_name}
 use Rattle.sa_parser.specs.Tree.{atom_in}
 use Rattle.sa_parser.specs.ExprGrammar.{Column, Call, Primary}
-use Rattle.sa_parser.specs.ExprReading.{column, call, primary, sees_call}
+use Rattle.sa_parser.specs.inner.ExprReading.{column, call, primary, sees_call}
 use Rattle.sa_parser.proofs.Consequences.{found-alone, faulty-alone}
 use Rattle.sa_parser.proofs.Heads.{or, only_names, only_sign, apart, within, has}
 use Rattle.sa_parser.proofs.Law.{Shape}

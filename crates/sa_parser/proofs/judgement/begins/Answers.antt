@@ -1,4 +1,4 @@
-use Rattle.sa_parser.specs.Grammar.{form_of}
+use Rattle.sa_parser.specs.inner.Grammar.{form_of}
 use Rattle.sa_parser.proofs.Judging.{Begins-tells}
 use Rattle.sa_parser.proofs.judgement.begins.Goals as goal
 

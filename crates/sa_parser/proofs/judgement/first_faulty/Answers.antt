@@ -1,4 +1,4 @@
-use Rattle.sa_parser.specs.Grammar.{form_of}
+use Rattle.sa_parser.specs.inner.Grammar.{form_of}
 use Rattle.sa_parser.proofs.Judging.{Begins-whole}
 use Rattle.sa_parser.proofs.judgement.first_faulty.Goals as goal
 

@@ -1,5 +1,5 @@
 use Rattle.std.proofs.Common.{ap, ◌∙◌, sym}
-use Rattle.sa_parser.specs.Grammar.{read_by}
+use Rattle.sa_parser.specs.inner.Grammar.{read_by}
 use Rattle.sa_parser.proofs.Judging.{judged-found, judged-faulty}
 use Rattle.sa_parser.proofs.judgement.judge.Goals as goal
 

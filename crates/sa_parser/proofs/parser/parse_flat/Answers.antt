@@ -1,4 +1,4 @@
-use Rattle.sa_parser.specs.Grammar.{form_of}
+use Rattle.sa_parser.specs.inner.Grammar.{form_of}
 use Rattle.sa_parser.proofs.Answering.{flat-told}
 use Rattle.sa_parser.proofs.parser.parse_flat.Goals as goal
 
