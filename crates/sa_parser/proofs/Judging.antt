@@ -9,8 +9,8 @@ use Rattle.sa_parser.specs.declared.grammar.Grammar.TheVariants.{Session, Setup}
 use Rattle.sa_parser.specs.declared.judgement.Judgement.TheVariants.{Faulty}
 use Rattle.sa_parser.specs.Form.{Form}
 use Rattle.sa_parser.specs.Fault.{Begins, FaultyAt}
-use Rattle.sa_parser.specs.Grammar.{form_of, read_by}
-use Rattle.sa_parser.specs.Judgement.{FaultyBehind, IsJudgement, IsFirstFaulty, whole_or_faulty}
+use Rattle.sa_parser.specs.inner.Grammar.{form_of, read_by}
+use Rattle.sa_parser.specs.inner.Judgement.{FaultyBehind, IsJudgement, IsFirstFaulty, whole_or_faulty}
 use Rattle.sa_parser.proofs.Agreement.{statement-sound, statement-leftover, statement-faulty, setup-sound, setup-leftover, setup-faulty}
 
 pub read-sound : (grammar : Grammar) (tokens : List Token) (tree : Statement) → read_by grammar tokens ≡ Ok (tree, []) → form_of grammar tokens tree
@@ -69,7 +69,7 @@ pub no_begin-faulty : (Is : Form Statement) (before behind : List Token) (token 
 no_begin-faulty Is before behind token faulty begins =
     faulty.1 (Begins-fewer Is (before ++ token ∷ []) behind (rw (append_assoc before (token ∷ []) behind) begins))
 
-no_begin-behind : (Is : Form Statement) (before behind : List Token) → 0 < length behind → FaultyAt Is before behind → Begins Is (before ++ behind) → ⊥
+pub no_begin-behind : (Is : Form Statement) (before behind : List Token) → 0 < length behind → FaultyAt Is before behind → Begins Is (before ++ behind) → ⊥
 no_begin-behind Is before [] some faulty begins = omega arith
 no_begin-behind Is before (token ∷ behind) some faulty begins = no_begin-faulty Is before behind token faulty begins
 

@@ -1,5 +1,5 @@
 -- What the parser answers: the tree of the tokens, or their first fault.
-use Rattle.std.specs.Prelude.{◌≡◌, ℕ, ◌<◌, ◌≤◌, ◌⊎◌, true, List, [], ◌∷◌, ◌++◌, Result, Ok, Err}
+use Rattle.std.specs.Prelude.{◌≡◌, ◌≢◌, ℕ, ◌<◌, ◌≤◌, ◌⊎◌, true, List, [], ◌∷◌, ◌++◌, Result, Ok, Err}
 use Rattle.sa_lexer.specs.declared.sign.Sign.TheVariants as signs
 use Rattle.sa_lexer.specs.declared.token.Token.{Token}
 use Rattle.sa_ast.specs.declared.statement.Statement.{Statement}
@@ -58,3 +58,9 @@ abbrev pub SetsUp : Statement → Type 0
 SetsUp (Create tree) = Unit {0}
 SetsUp (Insert tree) = Unit {0}
 SetsUp tree = ⊥
+
+-- An answer other than want of memory.
+pub record HasAnswer (Is : Form Statement) (tokens : List Token) : Type 0 where
+  pub answer : Result Statement ParseFault
+  pub is : IsAnswer Is tokens answer
+  pub known : answer ≢ Err OutOfMemory

@@ -33,4 +33,4 @@ mod words;
 
 pub use answer::ParseFault;
 pub use parser::{parse, parse_setup};
-pub use unique::{tokens_have_one_answer, tokens_have_one_tree};
+pub use unique::{tokens_have_an_answer, tokens_have_one_answer, tokens_have_one_tree};

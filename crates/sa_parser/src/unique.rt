@@ -1,4 +1,4 @@
-//! What holds of every answer. The law is a function that does nothing: its contract states the law,
+//! What holds of every answer. A law is a function that does nothing: its contract states the law,
 //! which its proof shows once and for all.
 
 ghost use Rattle.std.specs.Prelude.{◌≡◌, ◌≢◌, List, Result, Err};
@@ -6,7 +6,7 @@ ghost use Rattle.sa_lexer.specs.declared.token.Token.{Token};
 ghost use Rattle.sa_ast.specs.declared.statement.Statement.{Statement};
 ghost use Rattle.sa_parser.specs.declared.answer.ParseFault.{ParseFault};
 ghost use Rattle.sa_parser.specs.declared.answer.ParseFault.TheVariants.{OutOfMemory};
-ghost use Rattle.sa_parser.specs.Parse.{IsStatement, IsSetup, IsAnswer};
+ghost use Rattle.sa_parser.specs.Parse.{IsStatement, IsSetup, IsAnswer, HasAnswer};
 
 /// Tokens are one statement at most.
 pub fn tokens_have_one_tree()
@@ -24,4 +24,10 @@ pub fn tokens_have_one_answer()
     ensures setup { (tokens : List Token) (answer other : Result Statement ParseFault) →
         IsAnswer IsSetup tokens answer → IsAnswer IsSetup tokens other →
         answer ≢ Err OutOfMemory → other ≢ Err OutOfMemory → answer ≡ other }
+{}
+
+/// Tokens have an answer other than want of memory.
+pub fn tokens_have_an_answer()
+    ensures statement { (tokens : List Token) → HasAnswer IsStatement tokens }
+    ensures setup { (tokens : List Token) → HasAnswer IsSetup tokens }
 {}
