@@ -53,7 +53,7 @@ space_is : (bytes : List ℕ) → 0 < length bytes → is_space (get_or bytes 0 
 space_is [] some space = absurd (omega arith)
 space_is (byte ∷ bytes) some space = record { some = omega arith; within = omega arith; is = inl (byte, space, refl) }
 
-word_is : (bytes : List ℕ) → 0 < length bytes → is_ascii_digit (get_or bytes 0 0) ≡ false → is_word_byte (get_or bytes 0 0) ≡ true → IsLexeme bytes (word_at bytes)
+pub word_is : (bytes : List ℕ) → 0 < length bytes → is_ascii_digit (get_or bytes 0 0) ≡ false → is_word_byte (get_or bytes 0 0) ≡ true → IsLexeme bytes (word_at bytes)
 unfolding word_at
 word_is [] some digit first = absurd (omega arith)
 word_is (byte ∷ bytes) some digit first =

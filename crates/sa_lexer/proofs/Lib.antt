@@ -14,6 +14,7 @@ pub mod Lexemes
 pub mod Laws
 pub mod Pieces
 pub mod Again
+pub mod FirstLemmas
 pub mod Unique
 pub mod OpenLemmas
 pub mod WrongLemmas

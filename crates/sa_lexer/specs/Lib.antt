@@ -9,4 +9,6 @@ pub mod Tokens
 pub mod Spans
 pub mod Grammar
 pub mod Piece
+pub mod First
 pub mod Faulty
+pub mod inner

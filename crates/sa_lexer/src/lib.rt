@@ -7,6 +7,7 @@
 
 mod byte;
 mod fault;
+mod first;
 mod lexeme;
 mod opening;
 mod piece;
@@ -17,6 +18,7 @@ mod sign;
 mod token;
 
 pub use fault::{LexFault, LexKind};
+pub use first::{FirstToken, first_token};
 pub use piece::{PieceEnd, piece_end};
 pub use reading::tokens;
 pub use reserved::is_reserved;

@@ -9,6 +9,8 @@ mod comments;
 #[cfg(test)]
 mod faults;
 #[cfg(test)]
+mod first;
+#[cfg(test)]
 mod limits;
 #[cfg(test)]
 mod lines;
