@@ -1,5 +1,5 @@
 -- A text begins with one thing behind its blanks.
-use Rattle.std.proofs.Common.{◌≡◌, ◌≢◌, ℕ, zero, suc, ◌+◌, ◌-◌, ◌<◌, ◌≤◌, List, [], ◌∷◌, ◌++◌, length, take, drop, get_or, Option, Some, None, Result, Ok, Err, Bool, true, false, refl, sym, ap, ◌∙◌, subst, arith, inl, inr, ◌⊎◌, append_assoc, length-append, append-nil, add-zero}
+use Rattle.std.proofs.Common.{◌≡◌, ℕ, ◌+◌, ◌<◌, List, [], ◌∷◌, ◌++◌, length, take, drop, get_or, Some, None, Result, Ok, Err, true, false, refl, sym, ap, ◌∙◌, subst, arith, inl, inr, ◌⊎◌, append_assoc, length-append, append-nil}
 use Rattle.std.specs.Char.{is_ascii_digit}
 use Rattle.std.specs.List.{concat, prefix_len}
 use Rattle.std.proofs.Math.Seq.{take-append_seam, drop-append_seam}
@@ -8,25 +8,24 @@ use Rattle.std.proofs.lemmas.List.{take-append-drop, length-take-le, length-drop
 use Rattle.std.proofs.lemmas.Str.{IsCharBoundary-after_ascii}
 use Rattle.std.specs.Prelude.{codes}
 use Rattle.std.specs.Str.{IsUtf8, IsCharBoundary}
-use Rattle.std.proofs.lemmas.List.Sums.{prefix_len-le-length}
 use Rattle.sa_lexer.specs.declared.fault.LexKind.TheVariants.{BadByte}
 use Rattle.sa_lexer.specs.declared.fault.LexFault.{LexFault}
 use Rattle.sa_lexer.specs.declared.fault.LexFault.TheVariants.{Bad, OutOfMemory}
 use Rattle.sa_lexer.specs.declared.opening.Opening.{Opening}
-use Rattle.sa_lexer.specs.Fault.{Fault, fault, Answers, ◌>>=◌}
+use Rattle.sa_lexer.specs.Fault.{Fault, fault, Answers}
 use Rattle.sa_lexer.specs.declared.first.FirstToken.{FirstToken}
 use Rattle.sa_lexer.specs.declared.first.FirstToken.TheVariants.{Nothing, Word, Other}
 use Rattle.sa_lexer.specs.declared.lexeme.Lexeme.{Lexeme}
 use Rattle.sa_lexer.specs.declared.opening.Opening.TheVariants.{LineComment, Comment, Quoted, Plain}
 use Rattle.sa_lexer.specs.declared.token.TokenKind.TheVariants as kinds
 use Rattle.sa_lexer.specs.Byte.{is_space, is_word_byte}
-use Rattle.sa_lexer.specs.Opening.{opening_of, is_executable, line_len, opened_len, len_at}
+use Rattle.sa_lexer.specs.Opening.{opening_of, is_executable, opened_len, len_at}
 use Rattle.sa_lexer.specs.Lexeme.{blank, token, lexeme_at, word_at}
 use Rattle.sa_lexer.specs.Spans.{Spells}
 use Rattle.sa_lexer.specs.Grammar.{IsBlank, Ends, Follow}
-use Rattle.sa_lexer.specs.First.{StandsBehindBlanks, IsWordBefore, IsOther, IsFirst}
+use Rattle.sa_lexer.specs.First.{StandsBehindBlanks, IsWordBefore, IsFirst}
 use Rattle.sa_lexer.specs.inner.Front.{IsFrontBlank, IsFrontWord}
-use Rattle.sa_lexer.proofs.Again.{ReadsBlank, blank_again, token_again, comment_opens, plain_opens, space_apart, read_as}
+use Rattle.sa_lexer.proofs.Again.{blank_again, token_again, comment_opens, plain_opens, space_apart, read_as}
 use Rattle.sa_lexer.proofs.Lexemes.{lexeme_is, word_is}
 use Rattle.sa_lexer.proofs.Openings.{line_part, line_cut, comment_part, closed_cut}
 use Rattle.sa_lexer.proofs.Results.{ok_is}
@@ -37,11 +36,10 @@ NoBlank rest = (blank after : List ℕ) → rest ≡ blank ++ after → IsBlank 
 
 -- fronts of one list that are as long are the same
 same_front : (front back other rest : List ℕ) → length front ≡ length other → front ++ back ≡ other ++ rest → (front ≡ other) × (back ≡ rest)
-same_front front back other rest long e =
-    (
-      sym (take-append_seam front back) ∙ ap (λ (n : ℕ). take n (front ++ back)) long ∙ ap (take (length other)) e ∙ take-append_seam other rest,
-      sym (drop-append_seam front back) ∙ ap (λ (n : ℕ). drop n (front ++ back)) long ∙ ap (drop (length other)) e ∙ drop-append_seam other rest,
-    )
+same_front front back other rest long e = (
+  sym (take-append_seam front back) ∙ ap (λ (n : ℕ). take n (front ++ back)) long ∙ ap (take (length other)) e ∙ take-append_seam other rest,
+  sym (drop-append_seam front back) ∙ ap (λ (n : ℕ). drop n (front ++ back)) long ∙ ap (drop (length other)) e ∙ drop-append_seam other rest,
+)
 
 lens_same : (m n : ℕ) → blank m ≡ blank n → m ≡ n
 lens_same m n e = ap (λ (lexeme : Lexeme). lexeme.len) e

@@ -55,6 +55,9 @@ pub(crate) fn tokens_line(alloc: Global, text: &str) -> Result<String, Fail> {
 
 /// The end of the first piece of a text, or its fault.
 fn piece_line(alloc: Global, text: &str) -> Result<String, Fail> {
+    if !text.is_char_boundary(0) {
+        return Err(Fail::new("a text that begins within a character"));
+    }
     match piece_end(text, 0) {
         Ok(PieceEnd { end, closed }) if closed => Ok(format!(in alloc; "semicolon at {end}")?),
         Ok(PieceEnd { end, .. }) => Ok(format!(in alloc; "end at {end}")?),

@@ -1,5 +1,6 @@
 pub mod Agreement
 pub mod Alike
+pub mod canonical_text
 pub mod Answering
 pub mod Asking
 pub mod Consequences

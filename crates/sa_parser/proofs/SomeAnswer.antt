@@ -1,15 +1,14 @@
 -- Tokens have an answer: each choice that the parser makes can be made for any tokens.
-use Rattle.std.proofs.Common.{◌≡◌, ◌≢◌, ℕ, zero, suc, codes, ◌+◌, ◌-◌, ◌<◌, ◌≤◌, ◌⊎◌, inl, inr, Bool, true, false, List, [], ◌∷◌, ◌++◌, length, take, drop, get_or, Option, Some, None, Result, Ok, Err, is_some, refl, sym, ap, ◌∙◌, subst, arith, append_assoc, length-append}
+use Rattle.std.proofs.Common.{◌≡◌, ◌≢◌, ℕ, zero, suc, codes, ◌+◌, ◌-◌, ◌<◌, ◌⊎◌, inl, inr, Bool, true, false, List, [], ◌∷◌, ◌++◌, length, take, drop, get_or, Option, Some, None, Ok, Err, is_some, refl, sym, ap, ◌∙◌, arith, append_assoc, length-append}
 use Rattle.std.specs.List.{list_any}
 use Rattle.std.proofs.Math.Seq.{take-append_seam}
-use Rattle.std.proofs.lemmas.Bool.{false≢true, cases_lt}
-use Rattle.std.proofs.lemmas.List.{append-nil, take-append-drop, length-drop, drop_all, take_all, get_or-append-add, take_more}
+use Rattle.std.proofs.lemmas.Bool.{false≢true}
+use Rattle.std.proofs.lemmas.List.{append-nil, take-append-drop, length-drop}
 use Rattle.sa_lexer.specs.declared.sign.Sign as sign_type
 use Rattle.sa_lexer.specs.declared.sign.Sign.TheVariants as signs
 use Rattle.sa_lexer.specs.declared.token.Token.{Token}
 use Rattle.sa_lexer.specs.declared.token.TokenKind.{TokenKind}
 use Rattle.sa_lexer.specs.declared.token.TokenKind.TheVariants.{Word, QuotedName, Text, Number, Sign}
-use Rattle.sa_ast.specs.declared.statement.Statement.{Statement}
 use Rattle.sa_parser.specs.declared.answer.ParseFault.{ParseFault}
 use Rattle.sa_parser.specs.declared.answer.ParseFault.TheVariants.{Syntax, NotSupported, TooDeep, OutOfMemory}
 use Rattle.sa_parser.specs.declared.grammar.Grammar.{Grammar}
@@ -18,15 +17,15 @@ use Rattle.sa_parser.specs.declared.judgement.Judgement.TheVariants.{Whole, Faul
 use Rattle.sa_parser.specs.Token.{is_word, is_sign, name_of}
 use Rattle.sa_parser.specs.Form.{Form}
 use Rattle.sa_parser.specs.Depth.{depth_of, most_levels, StaysFlat}
-use Rattle.sa_parser.specs.Fault.{Begins, FaultyAt, fault_place, in_place_of, some_name, ReadAsName, StandsForKind, StandsForSwitch, unsupported_words, AsksForMore, IsUnsupported}
+use Rattle.sa_parser.specs.Fault.{Begins, fault_place, in_place_of, some_name, ReadAsName, StandsForKind, unsupported_words, AsksForMore, IsUnsupported}
 use Rattle.sa_parser.specs.Parse.{IsAnswer, HasAnswer}
 use Rattle.sa_parser.specs.inner.Answer.{IsFirstTooDeep, TellsFault}
-use Rattle.sa_parser.specs.inner.Grammar.{form_of, read_by}
-use Rattle.sa_parser.specs.inner.Judgement.{FaultyBehind, IsJudgement, IsFirstFaulty, whole_or_faulty}
+use Rattle.sa_parser.specs.inner.Grammar.{tree_of, form_of, read_by}
+use Rattle.sa_parser.specs.inner.Judgement.{IsJudgement, IsFirstFaulty, whole_or_faulty, first_of}
 use Rattle.sa_parser.specs.inner.Reading.{Outcome}
 use Rattle.sa_parser.proofs.Answering.{flat-told, IsJudgedFrom, deep-begun, deep-faulty}
 use Rattle.sa_parser.proofs.Depths.{StaysFlat-none, StaysFlat-push, deeper_or_least}
-use Rattle.sa_parser.proofs.Judging.{judged-found, judged-faulty, Begins-whole, no_begin-behind}
+use Rattle.sa_parser.proofs.Judging.{judged-found, judged-faulty, first-is, no_begin-behind}
 
 -- a fact or its contrary
 abbrev Decided : Type 0 → Type 0
@@ -60,26 +59,19 @@ some_deep front (token ∷ back) flat = elim (deeper_or_least most_levels (depth
 
 -- ---- what reading tells
 
-judged : (grammar : Grammar) (tokens : List Token) (outcome : Outcome Statement) → read_by grammar tokens ≡ outcome → (judgement : Judgement) × IsJudgement (form_of grammar) tokens judgement
+judged : (grammar : Grammar) (tokens : List Token) (outcome : Outcome (tree_of grammar)) → read_by grammar tokens ≡ outcome → (judgement : Judgement (tree_of grammar)) × IsJudgement (form_of grammar) tokens judgement
 judged grammar tokens (Ok (tree, behind)) e = (whole_or_faulty tree (length tokens) (length behind), (judged-found grammar tokens tree behind e).1)
 judged grammar tokens (Err left) e = (Faulty (length tokens - left), (judged-faulty grammar tokens left e).1)
 
-some_judgement : (grammar : Grammar) (tokens : List Token) → (judgement : Judgement) × IsJudgement (form_of grammar) tokens judgement
+some_judgement : (grammar : Grammar) (tokens : List Token) → (judgement : Judgement (tree_of grammar)) × IsJudgement (form_of grammar) tokens judgement
 some_judgement grammar tokens = judged grammar tokens (read_by grammar tokens) refl
-
-first_of : (Is : Form Statement) (tokens : List Token) (judgement : Judgement) → IsJudgement Is tokens judgement → (place : Option ℕ) × IsFirstFaulty Is tokens place
-first_of Is tokens (Whole tree) is = (None, Begins-whole Is tokens tree is)
-first_of Is tokens (Faulty count) is = elim (cases_lt count (length tokens)) [
-  | inl within ↦ (Some count, (within, is.1))
-  | inr past ↦ (None, (rw (take_all count tokens past, drop_all count tokens past) at is.1).0)
-]
 
 some_first : (grammar : Grammar) (tokens : List Token) → (place : Option ℕ) × IsFirstFaulty (form_of grammar) tokens place
 some_first grammar tokens =
     let (judgement, is) = some_judgement grammar tokens in
-    first_of (form_of grammar) tokens judgement is
+    (first_of judgement (length tokens), first-is (form_of grammar) tokens judgement is)
 
-begins_by : (Is : Form Statement) (tokens : List Token) (place : Option ℕ) → IsFirstFaulty Is tokens place → Decided (Begins Is tokens)
+begins_by : {A : Type 0} (Is : Form A) (tokens : List Token) (place : Option ℕ) → IsFirstFaulty Is tokens place → Decided (Begins Is tokens)
 begins_by Is tokens None begins = inl begins
 begins_by Is tokens (Some count) faulty =
     inr (λ begins. no_begin-behind Is (take count tokens) (drop count tokens) (rw length-drop (omega arith)) faulty.1 (rw (take-append-drop count tokens) begins))
@@ -197,10 +189,10 @@ some_fault grammar before behind = elim (unsupported grammar before behind) [
 
 -- ---- the answer
 
-answer_by_fault : (Is : Form Statement) (tokens : List Token) (fault : ParseFault) → fault ≢ OutOfMemory → IsAnswer Is tokens (Err fault) → HasAnswer Is tokens
+answer_by_fault : {A : Type 0} (Is : Form A) (tokens : List Token) (fault : ParseFault) → fault ≢ OutOfMemory → IsAnswer Is tokens (Err fault) → HasAnswer Is tokens
 answer_by_fault Is tokens fault known is = record { answer = Err fault; is = is; known = λ e. known (let same : fault ≡ OutOfMemory = cc in same) }
 
-flat_answer : (grammar : Grammar) (tokens : List Token) (judgement : Judgement) → StaysFlat tokens → IsJudgement (form_of grammar) tokens judgement → HasAnswer (form_of grammar) tokens
+flat_answer : (grammar : Grammar) (tokens : List Token) (judgement : Judgement (tree_of grammar)) → StaysFlat tokens → IsJudgement (form_of grammar) tokens judgement → HasAnswer (form_of grammar) tokens
 flat_answer grammar tokens (Whole tree) flat is = record { answer = Ok tree; is = (is, flat); known = λ e. cc }
 flat_answer grammar tokens (Faulty count) flat is =
     let told = some_fault grammar (take count tokens) (drop count tokens) in

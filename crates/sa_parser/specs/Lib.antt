@@ -7,7 +7,9 @@ pub mod SelectGrammar
 pub mod StatementGrammar
 pub mod SetupTree
 pub mod SetupGrammar
+pub mod DirectiveGrammar
 pub mod Depth
 pub mod Fault
 pub mod Parse
+pub mod Canonical
 pub mod inner

@@ -4,6 +4,7 @@ pub mod ExprReading
 pub mod SelectReading
 pub mod StatementReading
 pub mod SetupReading
+pub mod DirectiveReading
 pub mod Grammar
 pub mod Judgement
 pub mod Answer

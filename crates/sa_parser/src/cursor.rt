@@ -3,6 +3,7 @@ ghost use Rattle.sa_parser.specs.Token as spec;
 ghost use Rattle.sa_parser.specs.inner.Reading as reading;
 ghost use Rattle.sa_parser.specs.inner.Reads.{Reads};
 
+mod directive;
 mod expression;
 mod number;
 mod select;

@@ -9,7 +9,6 @@ ghost use Rattle.sa_parser.specs.inner.Grammar.{form_of};
 use crate::copied::copied;
 use crate::cursor::name_of;
 use crate::grammar::Grammar;
-use crate::judgement::begins;
 use crate::words::is_among;
 use sa_lexer::{Sign, Token, TokenKind};
 use sa_value::{OutOfMemory, Text};
@@ -143,5 +142,5 @@ fn begins_with(
         start: last.start,
         end: last.end,
     })?;
-    begins(alloc, grammar, &tokens)
+    grammar.begins(alloc, &tokens)
 }

@@ -7,6 +7,8 @@
 #[cfg(test)]
 mod depth;
 #[cfg(test)]
+mod directives;
+#[cfg(test)]
 mod expressions;
 #[cfg(test)]
 mod faults;

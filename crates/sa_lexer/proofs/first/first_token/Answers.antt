@@ -1,10 +1,7 @@
-use Rattle.std.proofs.Common.{◌≡◌, ◌+◌, ◌<◌, ℕ, List, drop, length, sym, ap, subst, arith}
-use Rattle.std.proofs.Common.{◌++◌}
+use Rattle.std.proofs.Common.{◌+◌, ◌<◌, drop, length, arith}
 use Rattle.std.proofs.lemmas.Str.{IsCharBoundary-start, IsCharBoundary-from_rest}
 use Rattle.sa_lexer.specs.declared.first.FirstToken.TheVariants.{Nothing, Word, Other}
-use Rattle.sa_lexer.specs.Grammar.{IsBlank}
-use Rattle.sa_lexer.specs.First.{StandsBehindBlanks, IsWordBefore, IsFirst}
-use Rattle.sa_lexer.specs.inner.Front.{IsFrontBlank, IsFrontWord, BeginsBlank, BeginsWord}
+use Rattle.sa_lexer.specs.inner.Front.{IsFrontBlank, IsFrontWord}
 use Rattle.sa_lexer.proofs.FirstLemmas.{blank_none, blank_push, nothing_left, told_word, told_other, one_first}
 use Rattle.sa_lexer.proofs.first.first_token.Goals as goal
 

@@ -1,6 +1,5 @@
-use Rattle.std.proofs.Common.{◌≡◌, ◌<◌, true, false, length, get_or, ap, sym, ◌∙◌, arith, rules}
+use Rattle.std.proofs.Common.{◌≡◌, ◌<◌, true, false, length, get_or, ap, arith, rules}
 use Rattle.std.specs.Char.{is_ascii_digit}
-use Rattle.std.proofs.lemmas.Bool.Decides.{nat_tests}
 use Rattle.sa_lexer.specs.Byte.{is_word_byte}
 use Rattle.sa_lexer.proofs.FirstLemmas.{word_front}
 use Rattle.sa_lexer.proofs.first.word_len.Goals as goal
