@@ -1,9 +1,10 @@
-//! The trees of statements, as the parser makes them and the printer and the resolver read them.
+//! The trees of statements and of the directives of a script, as the parser makes them and the printer and the resolver read them.
 //!
 //! Contracts see a tree as plain data without pointers, and a list of trees as a list.
 #![tactic(auto)]
 
 mod create;
+mod directive;
 mod expression;
 mod insert;
 mod kind;
@@ -12,6 +13,7 @@ mod select;
 mod statement;
 
 pub use create::{ColumnTree, ColumnTrees, CreateTree, KeyTree, KeyTrees, KindTree};
+pub use directive::{Directive, NumberTree, NumberTrees};
 pub use expression::{AggregateCall, ExprNode, ExprTree, ExprTrees};
 pub use insert::{InsertTree, TupleTree, TupleTrees};
 pub use kind::{AskKind, KillKind};

@@ -34,7 +34,7 @@ use Rattle.sa_lexer.proofs.Quotes.{held_parts}
 
 -- ---- what opens
 
-comment_opens : (rest : List ℕ) → opening_of (47 ∷ 42 ∷ rest) ≡ Comment
+pub comment_opens : (rest : List ℕ) → opening_of (47 ∷ 42 ∷ rest) ≡ Comment
 unfolding opening_of
 comment_opens rest = refl
 
@@ -55,12 +55,12 @@ line_safe : (bytes : List ℕ) → opening_of bytes ≡ LineComment → is_execu
 line_safe bytes opens = false_from_ne_true (is_executable bytes) (λ e. let clash : Comment ≡ LineComment = sym (executable_opens bytes e) ∙ opens in cc)
 
 -- a byte that begins no comment
-record OpensNone (byte : ℕ) : Type 0 where
-  hash : byte ≢ 35
-  dash : byte ≢ 45
-  slash : byte ≢ 47
+pub record OpensNone (byte : ℕ) : Type 0 where
+  pub hash : byte ≢ 35
+  pub dash : byte ≢ 45
+  pub slash : byte ≢ 47
 
-plain_opens : (byte : ℕ) (bytes : List ℕ) → OpensNone byte → is_quote byte ≡ false → opening_of (byte ∷ bytes) ≡ Plain
+pub plain_opens : (byte : ℕ) (bytes : List ℕ) → OpensNone byte → is_quote byte ≡ false → opening_of (byte ∷ bytes) ≡ Plain
 unfolding opening_of
 plain_opens byte bytes none quote =
     rw (ne_eqb 35 byte (λ e. none.hash (sym e)), ne_eqb 45 byte (λ e. none.dash (sym e)), ne_eqb 47 byte (λ e. none.slash (sym e)), quote) refl
@@ -70,7 +70,7 @@ unfolding opening_of
 quote_opens byte bytes none quote =
     rw (ne_eqb 35 byte (λ e. none.hash (sym e)), ne_eqb 45 byte (λ e. none.dash (sym e)), ne_eqb 47 byte (λ e. none.slash (sym e)), quote) refl
 
-read_as : (place : ℕ) (bytes : List ℕ) (opening : Opening) (len : ℕ) (lexeme : Lexeme) → is_executable bytes ≡ false → opening_of bytes ≡ opening → opened_len place bytes opening ≡ Ok len → opened_at place bytes len opening ≡ Ok lexeme
+pub read_as : (place : ℕ) (bytes : List ℕ) (opening : Opening) (len : ℕ) (lexeme : Lexeme) → is_executable bytes ≡ false → opening_of bytes ≡ opening → opened_len place bytes opening ≡ Ok len → opened_at place bytes len opening ≡ Ok lexeme
     → lexeme_at place bytes ≡ Ok lexeme
 unfolding lexeme_at len_at
 read_as place bytes opening len lexeme safe opens takes reads = rw (safe, opens, takes) reads
@@ -99,14 +99,14 @@ digits_pass (byte ∷ bytes) e =
 
 -- ---- blanks
 
-space_apart : (byte : ℕ) → is_space byte ≡ true → OpensNone byte × (is_quote byte ≡ false)
+pub space_apart : (byte : ℕ) → is_space byte ≡ true → OpensNone byte × (is_quote byte ≡ false)
 space_apart byte e = (record { hash = grind (arith, nat_tests); dash = grind (arith, nat_tests); slash = grind (arith, nat_tests) }, grind (arith, nat_tests))
 
 space_plain : (place byte : ℕ) (after : List ℕ) → is_space byte ≡ true → plain_at place (byte ∷ after) ≡ Ok (blank 1)
 unfolding plain_at
 space_plain place byte after e = rw e refl
 
-space_again : (place byte : ℕ) (after : List ℕ) → is_space byte ≡ true → lexeme_at place (byte ∷ after) ≡ Ok (blank 1)
+pub space_again : (place byte : ℕ) (after : List ℕ) → is_space byte ≡ true → lexeme_at place (byte ∷ after) ≡ Ok (blank 1)
 space_again place byte after e =
     let apart = space_apart byte e in
     plain_read place (byte ∷ after) (blank 1) (plain_opens byte after apart.0 apart.1) (space_plain place byte after e)

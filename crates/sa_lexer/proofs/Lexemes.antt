@@ -53,7 +53,7 @@ space_is : (bytes : List ℕ) → 0 < length bytes → is_space (get_or bytes 0 
 space_is [] some space = absurd (omega arith)
 space_is (byte ∷ bytes) some space = record { some = omega arith; within = omega arith; is = inl (byte, space, refl) }
 
-word_is : (bytes : List ℕ) → 0 < length bytes → is_ascii_digit (get_or bytes 0 0) ≡ false → is_word_byte (get_or bytes 0 0) ≡ true → IsLexeme bytes (word_at bytes)
+pub word_is : (bytes : List ℕ) → 0 < length bytes → is_ascii_digit (get_or bytes 0 0) ≡ false → is_word_byte (get_or bytes 0 0) ≡ true → IsLexeme bytes (word_at bytes)
 unfolding word_at
 word_is [] some digit first = absurd (omega arith)
 word_is (byte ∷ bytes) some digit first =
@@ -138,7 +138,7 @@ between quote source =
     rw all (take_at source (quote ∷ []) (length source) refl)
 
 -- which of the three quotes it is
-text_quote : (quote : ℕ) → is_quote quote ≡ true → (quote == 96) ≡ false → (quote ≡ 39) ⊎ (quote ≡ 34)
+pub text_quote : (quote : ℕ) → is_quote quote ≡ true → (quote == 96) ≡ false → (quote ≡ 39) ⊎ (quote ≡ 34)
 text_quote quote is other = elim (or_cases (quote == 39 || quote == 34) (quote == 96) is) [
   | inl a ↦ elim (or_cases (quote == 39) (quote == 34) a) [ inl b ↦ inl (eqb-true quote 39 b) | inr b ↦ inr (eqb-true quote 34 b) ]
   | inr a ↦ absurd (let clash : true ≡ false = sym a ∙ other in cc)

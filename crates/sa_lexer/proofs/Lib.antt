@@ -1,3 +1,4 @@
+pub mod Lists
 pub mod Results
 pub mod Cuts
 pub mod Runs
@@ -13,4 +14,8 @@ pub mod Lexemes
 pub mod Laws
 pub mod Pieces
 pub mod Again
+pub mod FirstLemmas
 pub mod Unique
+pub mod OpenLemmas
+pub mod WrongLemmas
+pub mod FaultyLemmas

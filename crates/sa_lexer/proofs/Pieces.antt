@@ -17,10 +17,10 @@ use Rattle.sa_lexer.proofs.Openings.{line_some, line_within}
 use Rattle.sa_lexer.proofs.Results.{ok_is, bind_ok, chosen}
 
 -- what is passed is a stretch
-record IsPassed (bytes : List ℕ) (len : ℕ) : Type 0 where
-  some : 0 < len
-  within : len ≤ length bytes
-  is : IsStretch (take len bytes) (drop len bytes)
+pub record IsPassed (bytes : List ℕ) (len : ℕ) : Type 0 where
+  pub some : 0 < len
+  pub within : len ≤ length bytes
+  pub is : IsStretch (take len bytes) (drop len bytes)
 
 plain_passed : (bytes : List ℕ) → 0 < length bytes → get_or bytes 0 0 ≢ 59 → opening_of bytes ≡ Plain → IsPassed bytes 1
 plain_passed [] some other opens = absurd (omega arith)
@@ -37,7 +37,7 @@ opened_passed place bytes len Quoted some other opens e =
     record { some = front.some; within = front.within; is = inr (inr (inr (front.quote, meaning_of front.parts, front.is, (front.parts, front.are, front.source, refl), front.ends))) }
 opened_passed place bytes len Plain some other opens e = subst (IsPassed bytes) (ok_is 1 len e) (plain_passed bytes some other opens)
 
-len_passed : (place : ℕ) (bytes : List ℕ) (len : ℕ) → 0 < length bytes → get_or bytes 0 0 ≢ 59 → len_at place bytes ≡ Ok len → IsPassed bytes len
+pub len_passed : (place : ℕ) (bytes : List ℕ) (len : ℕ) → 0 < length bytes → get_or bytes 0 0 ≢ 59 → len_at place bytes ≡ Ok len → IsPassed bytes len
 unfolding len_at
 len_passed place bytes len some other e = opened_passed place bytes len (opening_of bytes) some other refl e
 

@@ -32,10 +32,10 @@ with_part quote part rest n len is e h =
       ends = subst (λ (after : List ℕ). get_or after 0 0 ≢ quote) (sym (drop-append-add part.source rest n)) h.ends;
     })
 
-two_same : (quote first second : ℕ) → first ≡ quote → second ≡ quote → first ∷ second ∷ [] ≡ quote ∷ quote ∷ []
+pub two_same : (quote first second : ℕ) → first ≡ quote → second ≡ quote → first ∷ second ∷ [] ≡ quote ∷ quote ∷ []
 two_same quote first second a b = rw (a, b) refl
 
-second_same : (quote first second : ℕ) → (first == quote && not (second == quote)) ≡ false → (first == quote) ≡ true → second ≡ quote
+pub second_same : (quote first second : ℕ) → (first == quote && not (second == quote)) ≡ false → (first == quote) ≡ true → second ≡ quote
 second_same quote first second stays same = elim (and_cases (first == quote) (not (second == quote)) stays) [
   | inl a ↦ absurd (let clash : true ≡ false = sym same ∙ a in cc)
   | inr a ↦ eqb-true second quote (not-false (second == quote) a)

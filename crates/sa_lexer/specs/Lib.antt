@@ -1,5 +1,6 @@
 pub mod Byte
 pub mod Fault
+pub mod Reserved
 pub mod Sign
 pub mod Opening
 pub mod Quoted
@@ -8,3 +9,6 @@ pub mod Tokens
 pub mod Spans
 pub mod Grammar
 pub mod Piece
+pub mod First
+pub mod Faulty
+pub mod inner

@@ -178,7 +178,7 @@ fn sign(rest: &str, place: usize) -> Result<Lexeme, LexFault>
 }
 
 /// How many bytes of a word the text begins with. The text may be cut after them.
-fn run_of_word_bytes(rest: &str) -> usize
+pub(crate) fn run_of_word_bytes(rest: &str) -> usize
     ensures length { result ≡ prefix_len is_word_byte rest.now }
     ensures cut { IsCharBoundary rest.now result }
 {

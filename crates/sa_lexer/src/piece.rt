@@ -1,6 +1,7 @@
 ghost use Rattle.std.specs.Prelude.{◌+◌, ◌≤◌, IfOk, IfErr, IsTrue};
 ghost use Rattle.std.specs.Str.{IsCharBoundary};
 ghost use Rattle.sa_lexer.specs.Fault.{Answers, IsOpen};
+ghost use Rattle.sa_lexer.specs.Faulty.{TellsOpen};
 ghost use Rattle.sa_lexer.specs.Piece.{piece_end_at, EndsPiece};
 
 use crate::fault::LexFault;
@@ -27,6 +28,8 @@ pub fn piece_end(text: &str, from: usize) -> Result<PieceEnd, LexFault>
     ensures cut { IfOk result (λ piece. IsCharBoundary text.now piece.end) }
     // Behind the semicolon the next piece begins.
     ensures next { IfOk result (λ piece. IsTrue piece.closed → IsCharBoundary text.now (piece.end + 1)) }
+    // Where it has a fault, stretches without a semicolon stand up to that.
+    ensures faulty { IfErr result (TellsOpen from text.now) }
     ensures open_alone { IfErr result IsOpen }
 {
     let bytes = text.as_bytes();

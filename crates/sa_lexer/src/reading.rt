@@ -1,9 +1,10 @@
-ghost use Rattle.std.specs.Prelude.{List, IfOk, Ok, length};
+ghost use Rattle.std.specs.Prelude.{List, IfOk, IfErr, Ok, length};
 ghost use Rattle.sa_lexer.specs.declared.token.Token.{Token};
 ghost use Rattle.sa_lexer.specs.Fault.{Gives};
 ghost use Rattle.sa_lexer.specs.Tokens.{tokens_of};
 ghost use Rattle.sa_lexer.specs.Spans.{SpansRise, AllSpelled};
 ghost use Rattle.sa_lexer.specs.Grammar.{AreTokens};
+ghost use Rattle.sa_lexer.specs.Faulty.{TellsFault};
 
 use crate::fault::LexFault;
 use crate::lexeme::{Lexeme, first_lexeme};
@@ -18,6 +19,8 @@ pub fn tokens(alloc: Global, text: &str) -> Result<Tokens, LexFault>
     ensures whole { IfOk result (λ tokens. AreTokens 0 text.now tokens) }
     // A text that is such tokens is read as them, and as no others.
     ensures only { (tokens : List Token) → AreTokens 0 text.now tokens → Gives result (Ok tokens) }
+    // Where it has a fault, tokens and blanks stand up to that.
+    ensures faulty { IfErr result (TellsFault text.now) }
     ensures rise { IfOk result (λ tokens. SpansRise 0 (length text.now) tokens) }
     ensures spelled { IfOk result (λ tokens. AllSpelled text.now tokens) }
 {

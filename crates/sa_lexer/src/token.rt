@@ -1,8 +1,5 @@
-ghost use Rattle.std.specs.Prelude.{◌≡◌};
-
 use crate::sign::Sign;
-use sa_value::Text;
-use std::marker::Model;
+use sa_value::{Sequence, Text};
 
 /// What a token is.
 #[derive(Debug, Drop)]
@@ -27,41 +24,5 @@ pub struct Token {
     pub end: usize,
 }
 
-/// The tokens of a text. Contracts see them as a list.
-#[derive(Debug, Drop)]
-pub struct Tokens {
-    tokens: Vec<Token>,
-}
-
-impl Model for Tokens {
-    ghost use Rattle.std.specs.Prelude.{List};
-    ghost use Rattle.sa_lexer.specs.declared.token.Token as token;
-
-    ghost Value = { List token.Token };
-
-    ghost view = { λ tokens. tokens.tokens.items };
-}
-
-impl Tokens {
-    /// These tokens. It takes no memory.
-    pub fn from_vec(tokens: Vec<Token>) -> Tokens
-        ensures { result ≡ tokens.items }
-    {
-        Tokens { tokens }
-    }
-
-    /// The tokens, one after another. It takes no memory.
-    pub fn into_vec(self) -> Vec<Token>
-        ensures { result.items ≡ self }
-    {
-        let Tokens { tokens } = self;
-        tokens
-    }
-
-    /// The tokens.
-    pub fn as_slice(&self) -> &[Token]
-        ensures { result.now ≡ self.now }
-    {
-        self.tokens.as_slice()
-    }
-}
+/// The tokens of a text, one after another.
+pub type Tokens = Sequence<Token>;

@@ -1,15 +1,19 @@
--- The readers of whole statements agree with their forms.
+-- The readers of whole statements and directives agree with their forms.
 use Rattle.std.proofs.Common.{◌≡◌, ℕ, List, [], ◌∷◌, ◌++◌, length, Ok, Err}
 use Rattle.sa_lexer.specs.declared.token.Token.{Token}
 use Rattle.sa_ast.specs.declared.statement.Statement.{Statement}
 use Rattle.sa_parser.specs.Fault.{FaultyAt}
-use Rattle.sa_parser.specs.Parse.{IsStatement, IsSetup}
-use Rattle.sa_parser.specs.StatementReading.{statement_read}
-use Rattle.sa_parser.specs.SetupReading.{setup_read}
+use Rattle.sa_ast.specs.declared.directive.Directive.{Directive}
+use Rattle.sa_parser.specs.DirectiveGrammar.{directive}
+use Rattle.sa_parser.specs.Parse.{IsStatement, IsSetup, IsDirective}
+use Rattle.sa_parser.specs.inner.StatementReading.{statement_read}
+use Rattle.sa_parser.specs.inner.SetupReading.{setup_read}
+use Rattle.sa_parser.specs.inner.DirectiveReading.{directive_read}
 use Rattle.sa_parser.specs.SetupGrammar.{setup}
 use Rattle.sa_parser.proofs.Consequences.{one_value, whole-is}
 use Rattle.sa_parser.proofs.Law.{Law, Ahead}
 use Rattle.sa_parser.proofs.rules.AnyLevel.{some-sound, some-unique, some-leftover, some-faulty}
+use Rattle.sa_parser.proofs.rules.Directives.{directive_shape, directive-Agrees}
 use Rattle.sa_parser.proofs.rules.OneLevel.{one-leftover, one-faulty}
 use Rattle.sa_parser.proofs.rules.Statements.{statement-Levelled}
 use Rattle.sa_parser.proofs.rules.setup.Setup.{setup_shape, setup-Agrees}
@@ -49,3 +53,24 @@ setup-leftover = one-leftover setup-Law setup-Ahead
 pub setup-faulty : (tokens : List Token) (left : ℕ) → setup_read tokens ≡ Err left
     → (before behind : List Token) × (tokens ≡ before ++ behind) × (left ≡ length behind) × FaultyAt IsSetup before behind
 setup-faulty = one-faulty setup-Law setup-Ahead
+
+directive-Law : Law directive directive directive_shape directive_read
+directive-Law = (directive-Agrees {levels = 0}).law
+
+directive-Ahead : Ahead directive_read
+directive-Ahead = (directive-Agrees {levels = 0}).ahead
+
+pub directive-sound : (tokens : List Token) (tree : Directive) → directive_read tokens ≡ Ok (tree, []) → IsDirective tokens tree
+directive-sound = whole-is directive-Law
+
+pub directive-unique : (tokens : List Token) (tree other : Directive) → IsDirective tokens tree → IsDirective tokens other → tree ≡ other
+directive-unique = one_value directive-Law
+
+pub directive-leftover : (tokens : List Token) (tree : Directive) (token : Token) (behind : List Token)
+    → directive_read tokens ≡ Ok (tree, token ∷ behind)
+    → (before : List Token) × (tokens ≡ before ++ token ∷ behind) × FaultyAt IsDirective before (token ∷ behind)
+directive-leftover = one-leftover directive-Law directive-Ahead
+
+pub directive-faulty : (tokens : List Token) (left : ℕ) → directive_read tokens ≡ Err left
+    → (before behind : List Token) × (tokens ≡ before ++ behind) × (left ≡ length behind) × FaultyAt IsDirective before behind
+directive-faulty = one-faulty directive-Law directive-Ahead

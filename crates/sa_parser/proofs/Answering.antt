@@ -5,7 +5,6 @@ use Rattle.std.proofs.Math.Nat.{eq-or-lt_of_le}
 use Rattle.std.proofs.lemmas.Bool.{true≢false}
 use Rattle.sa_lexer.specs.declared.token.Token.{Token}
 use Rattle.sa_lexer.specs.declared.sign.Sign.TheVariants as signs
-use Rattle.sa_ast.specs.declared.statement.Statement.{Statement}
 use Rattle.sa_parser.specs.declared.answer.ParseFault.{ParseFault}
 use Rattle.sa_parser.specs.declared.answer.ParseFault.TheVariants.{Syntax, NotSupported, TooDeep, OutOfMemory}
 use Rattle.sa_parser.specs.Token.{is_sign}
@@ -13,12 +12,12 @@ use Rattle.sa_parser.specs.Form.{Form}
 use Rattle.sa_parser.specs.Depth.{StaysFlat}
 use Rattle.sa_parser.specs.Fault.{Begins, FaultyAt, end_of}
 use Rattle.sa_parser.specs.Parse.{StaysInLevels, IsAnswer}
-use Rattle.sa_parser.specs.Answer.{IsFirstTooDeep, TellsFault}
-use Rattle.sa_parser.specs.Judgement.{FaultyBehind, IsFirstFaulty}
+use Rattle.sa_parser.specs.inner.Answer.{IsFirstTooDeep, TellsFault}
+use Rattle.sa_parser.specs.inner.Judgement.{FaultyBehind, IsFirstFaulty}
 use Rattle.sa_parser.proofs.Judging.{Begins-fewer}
 
 -- A fault that is told is an answer.
-pub told : (Is : Form Statement) (tokens : List Token) (count : ℕ) (fault : ParseFault) → FaultyBehind Is tokens count
+pub told : {A : Type 0} (Is : Form A) (tokens : List Token) (count : ℕ) (fault : ParseFault) → FaultyBehind Is tokens count
     → StaysInLevels (take count tokens) (drop count tokens) → TellsFault Is (take count tokens) (drop count tokens) fault → IsAnswer Is tokens (Err fault)
 told Is tokens count (Syntax place) faulty stays tells =
     (take count tokens, drop count tokens, sym (take-append-drop count tokens), faulty, stays, tells.0, tells.1)
@@ -35,13 +34,13 @@ flat-parts before (token ∷ behind) flat = (
   inr (flat (before ++ token ∷ []) behind (sym (append_assoc before (token ∷ []) behind))),
 )
 
-pub flat-told : (Is : Form Statement) (tokens : List Token) (count : ℕ) (fault : ParseFault) → StaysFlat tokens → FaultyBehind Is tokens count
+pub flat-told : {A : Type 0} (Is : Form A) (tokens : List Token) (count : ℕ) (fault : ParseFault) → StaysFlat tokens → FaultyBehind Is tokens count
     → TellsFault Is (take count tokens) (drop count tokens) fault → IsAnswer Is tokens (Err fault)
 flat-told Is tokens count fault flat faulty tells =
     told Is tokens count fault faulty (flat-parts (take count tokens) (drop count tokens) (rw (take-append-drop count tokens) flat)) tells
 
 -- What is said of a fault stays true with further tokens behind it.
-faulty-further : (Is : Form Statement) (front back more : List Token) → 0 < length back → FaultyAt Is front back → FaultyAt Is front (back ++ more)
+faulty-further : {A : Type 0} (Is : Form A) (front back more : List Token) → 0 < length back → FaultyAt Is front back → FaultyAt Is front (back ++ more)
 faulty-further Is front [] more some faulty = absurd (omega arith)
 faulty-further Is front (token ∷ back) more some faulty = faulty
 
@@ -50,7 +49,7 @@ levels-further front [] more some stays = absurd (omega arith)
 levels-further front (token ∷ back) more some stays = stays
 
 -- a fault among the first of the tokens
-pub faulty-among : (Is : Form Statement) (scope more : List Token) (count : ℕ) → count < length scope → FaultyBehind Is scope count → FaultyBehind Is (scope ++ more) count
+pub faulty-among : {A : Type 0} (Is : Form A) (scope more : List Token) (count : ℕ) → count < length scope → FaultyBehind Is scope count → FaultyBehind Is (scope ++ more) count
 faulty-among Is scope more count within faulty =
     let front : take count (scope ++ more) ≡ take count scope = take-append-le count scope more (omega arith) in
     let back : drop count (scope ++ more) ≡ drop count scope ++ more = drop-append-le count scope more (omega arith) in
@@ -94,7 +93,7 @@ module _ (tokens : List Token) (place : ℕ) (token : Token) (deep : IsFirstTooD
         | inr before ↦ levels-before count before
       ]
 
-  pub deep-begun : (Is : Form Statement) (judged : ℕ) → IsJudgedFrom place token judged → Begins Is (take judged tokens)
+  pub deep-begun : {A : Type 0} (Is : Form A) (judged : ℕ) → IsJudgedFrom place token judged → Begins Is (take judged tokens)
       → IsAnswer Is tokens (Err (TooDeep token.start))
   deep-begun Is judged (inl star) begins =
       let with_it : Begins Is (take place tokens ++ token ∷ []) = rw (star.1, up_to) at begins in (
@@ -116,7 +115,7 @@ module _ (tokens : List Token) (place : ℕ) (token : Token) (deep : IsFirstTooD
     refl,
   )
 
-  pub deep-faulty : (Is : Form Statement) (judged count : ℕ) (fault : ParseFault) → IsJudgedFrom place token judged
+  pub deep-faulty : {A : Type 0} (Is : Form A) (judged count : ℕ) (fault : ParseFault) → IsJudgedFrom place token judged
       → IsFirstFaulty Is (take judged tokens) (Some count) → TellsFault Is (take count tokens) (drop count tokens) fault → IsAnswer Is tokens (Err fault)
   deep-faulty Is judged count fault (inl star) faulty tells =
       let within : count < place + 1 = omega (arith, faulty.0, length-take judged tokens, star.1) in

@@ -5,7 +5,7 @@ use Rattle.std.proofs.lemmas.List.Sums.{fold_more}
 use Rattle.std.proofs.lemmas.Bool.Decides.{leb_tells}
 use Rattle.sa_lexer.specs.declared.token.Token.{Token}
 use Rattle.sa_parser.specs.Depth.{Depth, at_first, with_token, depth_of, most_levels, StaysFlat}
-use Rattle.sa_parser.specs.Levels.{Nests}
+use Rattle.sa_parser.specs.inner.Levels.{Nests}
 use Rattle.sa_parser.proofs.Lists.{Same, Sooner, Later, parting}
 
 -- There are no more open brackets than levels.
@@ -43,7 +43,7 @@ StaysFlat-push tokens token flat least before behind parts =
     whole next [] behind e = cc
     whole next (other ∷ more) behind e = cc
 
-deeper_or_least : (least depth : ℕ) → (least < depth) ⊎ (depth ≤ least)
+pub deeper_or_least : (least depth : ℕ) → (least < depth) ⊎ (depth ≤ least)
 deeper_or_least least depth = elim (leb_tells depth least) [ inl within ↦ inr within.1 | inr deeper ↦ inl deeper.1 ]
 
 -- What the first tokens come to, and what they come to with one more.

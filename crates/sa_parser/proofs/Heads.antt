@@ -9,7 +9,7 @@ use Rattle.sa_lexer.specs.declared.sign.Sign.{Sign}
 use Rattle.sa_lexer.specs.declared.token.Token.{Token}
 use Rattle.sa_lexer.specs.declared.token.TokenKind.{TokenKind}
 use Rattle.sa_lexer.specs.declared.token.TokenKind.TheVariants as kinds
-use Rattle.sa_print.specs.Reserved.{is_reserved, reserved_words}
+use Rattle.sa_lexer.specs.Reserved.{is_reserved, reserved_words}
 use Rattle.sa_parser.specs.Token.{is_word, is_sign, same_sign, name_of}
 use Rattle.sa_parser.proofs.Alike.{words_alike, signs_alike, any-apart, any-within, any-all_moved}
 

@@ -20,5 +20,6 @@ pub mod Parts
 pub mod ReadingChains
 pub mod ReadingLevels
 pub mod rules
+pub mod SomeAnswer
 pub mod Sorts
 pub mod Starts

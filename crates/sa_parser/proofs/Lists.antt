@@ -1,12 +1,5 @@
--- What holds of lists: where two ways of parting one list agree, and what of lists is in their parts.
-use Rattle.std.proofs.Common.{◌≡◌, Bool, List, [], ◌∷◌, ◌++◌, map, refl, ap, sym}
-use Rattle.std.specs.Prelude.{◌||◌}
-use Rattle.std.specs.List.{list_any}
-
--- a test of what a function sees
-pub list_any-map : {X Y : Type 0} (p : Y → Bool) (f : X → Y) (xs : List X) → list_any p (map f xs) ≡ list_any (λ x. p (f x)) xs
-list_any-map p f [] = refl
-list_any-map p f (x ∷ xs) = ap (λ (b : Bool). p (f x) || b) (list_any-map p f xs)
+-- Where two ways of parting one list agree.
+use Rattle.std.proofs.Common.{◌≡◌, List, [], ◌∷◌, ◌++◌, refl, sym}
 
 -- One list parted in two ways: at the same place, or the first time before the second, or behind it.
 pub data Parting {A : Type 0} (front back other rest : List A) : Type 0 where

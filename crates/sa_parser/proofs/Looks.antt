@@ -2,7 +2,7 @@
 use Rattle.std.proofs.Common.{◌≡◌, ℕ, Bool, ◌||◌, List, [], ◌∷◌, ◌++◌, refl, sym, ap₂, ◌∙◌}
 use Rattle.sa_lexer.specs.declared.sign.Sign.{Sign}
 use Rattle.sa_lexer.specs.declared.token.Token.{Token}
-use Rattle.sa_parser.specs.Reading.{sees_word, sees_sign, sees_name}
+use Rattle.sa_parser.specs.inner.Reading.{sees_word, sees_sign, sees_name}
 use Rattle.sa_parser.proofs.Heads.{Heads, or, starts, only_word, only_sign, only_names, only_word-has, only_sign-has, only_names-has}
 use Rattle.sa_parser.proofs.Starts.{starts-or, starts-other}
 

@@ -1,7 +1,6 @@
 -- Tokens have one answer.
 use Rattle.std.proofs.Common.{◌≡◌, ◌≢◌, ℕ, ◌<◌, inl, inr, List, [], ◌∷◌, ◌++◌, Result, Ok, Err, refl, sym, ap, ◌∙◌, arith, append_assoc, append-nil}
 use Rattle.sa_lexer.specs.declared.token.Token.{Token}
-use Rattle.sa_ast.specs.declared.statement.Statement.{Statement}
 use Rattle.sa_parser.specs.declared.answer.ParseFault.{ParseFault}
 use Rattle.sa_parser.specs.declared.answer.ParseFault.TheVariants.{Syntax, NotSupported, TooDeep, OutOfMemory}
 use Rattle.sa_parser.specs.Form.{Form}
@@ -11,7 +10,7 @@ use Rattle.sa_parser.specs.Parse.{DeepensTooFar, StaysInLevels, HasFault, GoesTo
 use Rattle.sa_parser.proofs.Lists.{Same, Sooner, Later, parting}
 use Rattle.sa_parser.proofs.Judging.{Begins-whole, no_begin-faulty}
 
-begins-before : (Is : Form Statement) (before behind : List Token) → FaultyAt Is before behind → Begins Is before
+begins-before : {A : Type 0} (Is : Form A) (before behind : List Token) → FaultyAt Is before behind → Begins Is before
 begins-before Is before [] faulty = faulty.0
 begins-before Is before (token ∷ behind) faulty = faulty.0
 
@@ -24,12 +23,12 @@ not_flat : (tokens before more : List Token) (token next : Token) → token ≡ 
 not_flat tokens before more token next same flat parts deeper =
     omega (arith, flat (before ++ next ∷ []) more (parts ∙ sym (append_assoc before (next ∷ []) more)), rw same at deeper)
 
-abbrev NotUnsupported : Form Statement → List Token → List Token → Type 0
+abbrev NotUnsupported : {A : Type 0} → Form A → List Token → List Token → Type 0
 NotUnsupported Is before behind = IsUnsupported Is before behind → ⊥
 
-module _ (Is : Form Statement) where
+module _ {A : Type 0} (Is : Form A) where
   -- A statement has no fault.
-  whole-faultless : (before behind : List Token) (tree : Statement) → Is (before ++ behind) tree → FaultyAt Is before behind → ⊥
+  whole-faultless : (before behind : List Token) (tree : A) → Is (before ++ behind) tree → FaultyAt Is before behind → ⊥
   whole-faultless before [] tree is faulty = faulty.1 tree (rw append-nil at is)
   whole-faultless before (token ∷ behind) tree is faulty = no_begin-faulty Is before behind token faulty (Begins-whole Is (before ++ token ∷ behind) tree is)
 
@@ -53,8 +52,8 @@ module _ (Is : Form Statement) where
   same-place before behind token faulty stays deepens =
       elim stays.1 [ inl star ↦ faulty.1 (deepens.2 star) | inr least ↦ omega (arith, least, deepens.1) ]
 
-module _ (Is : Form Statement) (tokens : List Token) where
-  whole-or_fault : (tree : Statement) (IsKind : List Token → List Token → Type 0) (place : ℕ) → Is tokens tree → HasFault Is tokens IsKind place → ⊥
+module _ {A : Type 0} (Is : Form A) (tokens : List Token) where
+  whole-or_fault : (tree : A) (IsKind : List Token → List Token → Type 0) (place : ℕ) → Is tokens tree → HasFault Is tokens IsKind place → ⊥
   whole-or_fault tree IsKind place is (before, behind, parts, faulty, stays, kind, there) =
       whole-faultless Is before behind tree (rw parts at is) faulty
 
@@ -86,12 +85,12 @@ module _ (Is : Form Statement) (tokens : List Token) where
         | Later first more one two ↦ absurd (not_flat before front more next first (cc) deepens.0 one sinks.1)
       ]
 
-  module _ (unique : (tree other : Statement) → Is tokens tree → Is tokens other → tree ≡ other) where
-    pub one-answer : (answer other : Result Statement ParseFault) → IsAnswer Is tokens answer → IsAnswer Is tokens other
+  module _ (unique : (tree other : A) → Is tokens tree → Is tokens other → tree ≡ other) where
+    pub one-answer : (answer other : Result A ParseFault) → IsAnswer Is tokens answer → IsAnswer Is tokens other
         → answer ≢ Err OutOfMemory → other ≢ Err OutOfMemory → answer ≡ other
     one-answer (Err OutOfMemory) other is same known told = absurd (known refl)
     one-answer answer (Err OutOfMemory) is same known told = absurd (told refl)
-    one-answer (Ok tree) (Ok other) is same known told = ap (λ (one : Statement). Ok one) (unique tree other is.0 same.0)
+    one-answer (Ok tree) (Ok other) is same known told = ap (λ (one : A). Ok one) (unique tree other is.0 same.0)
     one-answer (Ok tree) (Err (Syntax place)) is same known told = absurd (whole-or_fault tree (NotUnsupported Is) place is.0 same)
     one-answer (Ok tree) (Err (NotSupported place)) is same known told = absurd (whole-or_fault tree (IsUnsupported Is) place is.0 same)
     one-answer (Ok tree) (Err (TooDeep place)) is same known told = absurd (whole-or_deep place is.1 same)

@@ -1,7 +1,7 @@
 -- What an outcome tells: which value and rest it has, and where it came from.
 use Rattle.std.proofs.Common.{◌≡◌, ℕ, ◌⊎◌, List, Ok, Err, refl, ap, inl, inr}
 use Rattle.sa_lexer.specs.declared.token.Token.{Token}
-use Rattle.sa_parser.specs.Reading.{Outcome, Reader, and_then, given}
+use Rattle.sa_parser.specs.inner.Reading.{Outcome, Reader, and_then, given}
 
 module _ {A : Type 0} where
   found_in : A × List Token → Outcome A → A × List Token

@@ -1,7 +1,7 @@
 -- A chain that is read by a loop, of which so many turns are done.
 use Rattle.std.proofs.Common.{◌≡◌, ℕ, suc, ◌+◌, ◌-◌, ◌<◌, ◌≤◌, Bool, List, Ok, ap, arith, cond}
 use Rattle.sa_lexer.specs.declared.token.Token.{Token}
-use Rattle.sa_parser.specs.Reading.{Reader, and_then, more}
+use Rattle.sa_parser.specs.inner.Reading.{Reader, and_then, more}
 
 pub more-turn : {A B : Type 0} (looks : List Token → Bool) (take : A → B → A) (read : Reader B) (turns done : ℕ) (so_far : A) (tokens : List Token)
     → done < turns → more looks take read (turns - done) so_far tokens

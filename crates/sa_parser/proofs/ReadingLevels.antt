@@ -2,8 +2,8 @@
 use Rattle.std.proofs.Common.{◌≡◌, ℕ, suc, ◌-◌, ◌<◌, List, ap, arith}
 use Rattle.sa_lexer.specs.declared.token.Token.{Token}
 use Rattle.sa_parser.specs.declared.rule.Rule.{Rule}
-use Rattle.sa_parser.specs.Reading.{refuse}
-use Rattle.sa_parser.specs.ExprReading.{nested_read, ruled_read}
+use Rattle.sa_parser.specs.inner.Reading.{refuse}
+use Rattle.sa_parser.specs.inner.ExprReading.{nested_read, ruled_read}
 
 pub nested_read-none : (levels : ℕ) (rule : Rule) (tokens : List Token) → levels ≡ 0 → nested_read levels rule tokens ≡ refuse tokens
 unfolding nested_read

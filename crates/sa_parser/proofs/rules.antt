@@ -8,6 +8,7 @@ pub mod Clauses
 pub mod Column
 pub mod Columns
 pub mod Commands
+pub mod Directives
 pub mod Examples
 pub mod Explains
 pub mod FirstToken

@@ -1,6 +1,7 @@
--- How deep the tokens of a statement go. Each open bracket counts one, and so does each NOT, each sign of
--- arithmetic, each sign of a number and each comparison since the innermost open bracket, or since the beginning.
-use Rattle.std.specs.Prelude.{◌≡◌, ℕ, ◌+◌, ◌≤◌, Bool, true, false, ◌||◌, ◌&&◌, List, [], ◌∷◌, ◌++◌, codes, if◌then◌else◌, is_some, fold}
+-- How deep the tokens of a statement go. Each open bracket, NOT, sign of arithmetic, sign of a number and comparison adds
+-- one. A closed bracket takes away what came since its opening one, and one for that. A comma, AND, `&&`, OR and the first
+-- word of a clause take away what came since the innermost open bracket, or since the beginning.
+use Rattle.std.specs.Prelude.{◌≡◌, ℕ, ◌+◌, ◌≤◌, Bool, true, false, not, ◌||◌, ◌&&◌, ◌==◌, List, [], ◌∷◌, ◌++◌, length, codes, if◌then◌else◌, is_some, fold}
 use Rattle.std.specs.List.{list_any}
 use Rattle.sa_lexer.specs.declared.sign.Sign.TheVariants as signs
 use Rattle.sa_lexer.specs.declared.token.Token.{Token}
@@ -39,9 +40,12 @@ begins_afresh kind = is_sign signs.Comma kind || (is_sign signs.AndAnd kind || s
 abbrev pub multiplies : Bool → TokenKind → Bool
 multiplies operand kind = operand && is_sign signs.Star kind
 
--- An `=` before SELECT compares nothing.
+-- Whether an `=` compares: where SELECT was seen or a bracket is open. Elsewhere it is the one of FORMAT, SET or ENGINE.
+abbrev pub has_comparisons : Depth → Bool
+has_comparisons so_far = so_far.selected || not (length so_far.opened == 0)
+
 abbrev pub compares : Bool → TokenKind → Bool
-compares selected kind = is_some (comparison_of kind) && (selected || is_sign_but_equal kind)
+compares equal kind = is_some (comparison_of kind) && (equal || is_sign_but_equal kind)
   where
     is_sign_but_equal : TokenKind → Bool
     is_sign_but_equal (kinds.Sign signs.Equal) = false
@@ -51,7 +55,7 @@ compares selected kind = is_some (comparison_of kind) && (selected || is_sign_bu
 abbrev pub deepens : Depth → TokenKind → Bool
 deepens so_far kind =
     is_word (codes "NOT") kind || (is_sign signs.Plus kind || (is_sign signs.Minus kind
-    || (multiplies so_far.operand kind || compares so_far.selected kind)))
+    || (multiplies so_far.operand kind || compares (has_comparisons so_far) kind)))
 
 -- what an operand can end with
 abbrev pub ends_operand : TokenKind → Bool

@@ -7,7 +7,7 @@ use Rattle.sa_lexer.specs.declared.token.TokenKind.TheVariants.{Word, QuotedName
 use Rattle.sa_lexer.specs.declared.token.TokenKind.TheVariants as kinds
 use Rattle.sa_lexer.specs.declared.sign.Sign.{Sign}
 use Rattle.sa_lexer.specs.Sign.{spelling}
-use Rattle.sa_print.specs.Reserved.{is_reserved}
+use Rattle.sa_lexer.specs.Reserved.{is_reserved}
 use Rattle.sa_ast.specs.declared.name.NameTree.{NameTree}
 
 -- Whether a token is this word. A word counts as a keyword in either case of its letters.

@@ -1,5 +1,4 @@
-//! The canonical text of a statement is read back as its tree. The law is a function that does nothing: its
-//! contract states the law, which its proof shows once and for all.
+//! The law is a function that does nothing: its contract states the law, which its proof shows once and for all.
 
 ghost use Rattle.sa_parser.specs.Canonical.{CanonicalTextIsUnique};
 

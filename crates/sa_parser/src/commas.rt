@@ -1,7 +1,7 @@
 //! Lists with commas between their parts.
 
-ghost use Rattle.sa_parser.specs.Reading as reading;
-ghost use Rattle.sa_parser.specs.Reads.{Reads};
+ghost use Rattle.sa_parser.specs.inner.Reading as reading;
+ghost use Rattle.sa_parser.specs.inner.Reads.{Reads};
 
 use crate::cursor::Cursor;
 use crate::fault::ReadFault;
@@ -12,7 +12,7 @@ use std::alloc::Global;
 /// What a list with commas can be of.
 pub(crate) trait Listed: Drop + Sized {
     ghost use Rattle.std.specs.Prelude.{ℕ};
-    ghost use Rattle.sa_parser.specs.Reading.{Reader};
+    ghost use Rattle.sa_parser.specs.inner.Reading.{Reader};
 
     ghost part: { ℕ → Reader Self };
 
@@ -22,7 +22,7 @@ pub(crate) trait Listed: Drop + Sized {
 }
 
 /// One or more parts, with commas between them.
-#[tactic(auto, using(crate::proofs::ReadingChains::turns), unfolding(crate::specs::Reading::made, crate::specs::Reading::then_read, crate::specs::Reading::chain))]
+#[tactic(auto, using(crate::proofs::ReadingChains::turns), unfolding(crate::specs::inner::Reading::made, crate::specs::inner::Reading::then_read, crate::specs::inner::Reading::chain))]
 pub(crate) fn commas<T: Listed>(
     alloc: Global,
     levels: usize,

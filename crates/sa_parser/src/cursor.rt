@@ -1,8 +1,9 @@
 ghost use Rattle.std.specs.Prelude.{◌≡◌, length, option_map};
 ghost use Rattle.sa_parser.specs.Token as spec;
-ghost use Rattle.sa_parser.specs.Reading as reading;
-ghost use Rattle.sa_parser.specs.Reads.{Reads};
+ghost use Rattle.sa_parser.specs.inner.Reading as reading;
+ghost use Rattle.sa_parser.specs.inner.Reads.{Reads};
 
+mod directive;
 mod expression;
 mod number;
 mod select;
@@ -11,8 +12,7 @@ mod statement;
 
 use crate::fault::ReadFault;
 use sa_ast::NameTree;
-use sa_lexer::{Sign, Token, TokenKind};
-use sa_print::is_reserved;
+use sa_lexer::{Sign, Token, TokenKind, is_reserved};
 use sa_value::Text;
 use std::alloc::Global;
 use std::marker::Model;
@@ -55,7 +55,7 @@ impl<'a> Cursor<'a> {
     }
 
     /// Whether the next token is this word.
-    #[tactic(auto, unfolding(crate::specs::Reading::sees_word))]
+    #[tactic(auto, unfolding(crate::specs::inner::Reading::sees_word))]
     pub(crate) fn sees_word(&self, text: &str) -> bool
         ensures { result ≡ reading.sees_word text.now self.now }
     {
@@ -66,7 +66,7 @@ impl<'a> Cursor<'a> {
     }
 
     /// Whether the next token is this sign.
-    #[tactic(auto, unfolding(crate::specs::Reading::sees_sign))]
+    #[tactic(auto, unfolding(crate::specs::inner::Reading::sees_sign))]
     pub(crate) fn sees_sign(&self, sign: Sign) -> bool
         ensures { result ≡ reading.sees_sign sign self.now }
     {
@@ -77,7 +77,7 @@ impl<'a> Cursor<'a> {
     }
 
     /// Whether the next token is a name.
-    #[tactic(auto, unfolding(crate::specs::Reading::sees_name))]
+    #[tactic(auto, unfolding(crate::specs::inner::Reading::sees_name))]
     pub(crate) fn sees_name(&self) -> bool
         ensures { result ≡ reading.sees_name self.now }
     {
@@ -88,7 +88,7 @@ impl<'a> Cursor<'a> {
     }
 
     /// The place of the next token, which has to be this word.
-    #[tactic(auto, unfolding(crate::specs::Reading::one))]
+    #[tactic(auto, unfolding(crate::specs::inner::Reading::one))]
     pub(crate) fn word(&mut self, text: &str) -> Result<usize, ReadFault>
         ensures { Reads (reading.word text.now self.old) result self.new }
     {
@@ -102,7 +102,7 @@ impl<'a> Cursor<'a> {
     }
 
     /// The place of the next token, which has to be this sign.
-    #[tactic(auto, unfolding(crate::specs::Reading::one))]
+    #[tactic(auto, unfolding(crate::specs::inner::Reading::one))]
     pub(crate) fn sign(&mut self, sign: Sign) -> Result<usize, ReadFault>
         ensures { Reads (reading.sign sign self.old) result self.new }
     {
@@ -116,7 +116,7 @@ impl<'a> Cursor<'a> {
     }
 
     /// The next token, which has to be a name.
-    #[tactic(auto, unfolding(crate::specs::Reading::one))]
+    #[tactic(auto, unfolding(crate::specs::inner::Reading::one))]
     pub(crate) fn name(&mut self, alloc: Global) -> Result<NameTree, ReadFault>
         ensures { Reads (reading.name self.old) result self.new }
     {

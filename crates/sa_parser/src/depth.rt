@@ -1,7 +1,7 @@
 //! How deep the tokens of a statement go.
 
 ghost use Rattle.std.specs.Prelude.{◌≡◌, ◌+◌, ◌<◌, ◌≤◌, ◌∷◌, ◌↔◌, ◌||◌, IsTrue, codes, is_some};
-ghost use Rattle.sa_parser.specs.Answer.{IsFirstTooDeep};
+ghost use Rattle.sa_parser.specs.inner.Answer.{IsFirstTooDeep};
 ghost use Rattle.sa_parser.specs.Depth as spec;
 ghost use Rattle.sa_parser.specs.Token.{is_word};
 ghost use Rattle.sa_parser.specs.Tree.{atom_of};
@@ -49,7 +49,7 @@ struct Levels {
 impl Model for Levels {
     ghost use Rattle.std.specs.Prelude.{reverse};
     ghost use Rattle.sa_parser.specs.Depth.{Depth};
-    ghost use Rattle.sa_parser.specs.Levels.{Nests};
+    ghost use Rattle.sa_parser.specs.inner.Levels.{Nests};
 
     ghost Value = { Depth };
 
@@ -163,7 +163,14 @@ impl Levels {
             || is_sign(token, Sign::Plus)
             || is_sign(token, Sign::Minus)
             || (self.operand && is_sign(token, Sign::Star))
-            || compares(token, self.selected)
+            || compares(token, self.has_comparisons())
+    }
+
+    /// Whether an `=` compares here: SELECT was among the tokens, or a bracket is open.
+    fn has_comparisons(&self) -> bool
+        ensures { result ≡ spec.has_comparisons self.now }
+    {
+        self.selected || !self.opened.is_empty()
     }
 }
 
@@ -174,12 +181,12 @@ fn begins_afresh(token: &Token) -> bool
     is_sign(token, Sign::Comma) || is_sign(token, Sign::AndAnd) || is_among(&CLAUSE_WORDS, token)
 }
 
-/// Whether a token compares. An `=` before SELECT compares nothing.
-fn compares(token: &Token, selected: bool) -> bool
-    ensures { result ≡ spec.compares selected token.now.kind }
+/// Whether a token compares, where an `=` does or doesn't.
+fn compares(token: &Token, equal: bool) -> bool
+    ensures { result ≡ spec.compares equal token.now.kind }
 {
     match &token.kind {
-        TokenKind::Sign(Sign::Equal) => selected,
+        TokenKind::Sign(Sign::Equal) => equal,
         TokenKind::Sign(
             Sign::NullSafeEqual
             | Sign::NotEqual

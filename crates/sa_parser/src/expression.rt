@@ -1,7 +1,7 @@
 //! Expressions, from OR down to NOT.
 
-ghost use Rattle.sa_parser.specs.ExprReading as reading;
-ghost use Rattle.sa_parser.specs.Reads.{Reads};
+ghost use Rattle.sa_parser.specs.inner.ExprReading as reading;
+ghost use Rattle.sa_parser.specs.inner.Reads.{Reads};
 
 use crate::cursor::Cursor;
 use crate::fault::ReadFault;
@@ -38,7 +38,7 @@ pub(crate) fn nested(
 
 /// Conditions with OR between them.
 #[cycle(nesting)]
-#[tactic(auto, using(crate::proofs::ReadingChains::turns), unfolding(crate::specs::ExprReading::disjunction, crate::specs::Reading::chain, crate::specs::Reading::made, crate::specs::Reading::then_read))]
+#[tactic(auto, using(crate::proofs::ReadingChains::turns), unfolding(crate::specs::inner::ExprReading::disjunction, crate::specs::inner::Reading::chain, crate::specs::inner::Reading::made, crate::specs::inner::Reading::then_read))]
 pub(crate) fn disjunction(
     alloc: Global,
     levels: usize,
@@ -61,7 +61,7 @@ pub(crate) fn disjunction(
 
 /// Conditions with AND between them.
 #[cycle(nesting)]
-#[tactic(auto, using(crate::proofs::ReadingChains::turns), unfolding(crate::specs::ExprReading::conjunction, crate::specs::Reading::chain, crate::specs::Reading::made, crate::specs::Reading::then_read))]
+#[tactic(auto, using(crate::proofs::ReadingChains::turns), unfolding(crate::specs::inner::ExprReading::conjunction, crate::specs::inner::Reading::chain, crate::specs::inner::Reading::made, crate::specs::inner::Reading::then_read))]
 fn conjunction(
     alloc: Global,
     levels: usize,
@@ -84,7 +84,7 @@ fn conjunction(
 
 /// A predicate, or NOT and another condition.
 #[cycle(nesting)]
-#[tactic(auto, unfolding(crate::specs::ExprReading::negation, crate::specs::Reading::either, crate::specs::Reading::made, crate::specs::Reading::then_read))]
+#[tactic(auto, unfolding(crate::specs::inner::ExprReading::negation, crate::specs::inner::Reading::either, crate::specs::inner::Reading::made, crate::specs::inner::Reading::then_read))]
 fn negation(
     alloc: Global,
     levels: usize,

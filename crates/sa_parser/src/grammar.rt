@@ -1,33 +1,44 @@
-ghost use Rattle.sa_parser.specs.Reads.{Reads};
-ghost use Rattle.sa_parser.specs.Grammar.{read_by};
+ghost use Rattle.std.specs.Prelude.{◌↔◌, IfOk, IsTrue};
+ghost use Rattle.sa_parser.specs.Fault.{Begins};
+ghost use Rattle.sa_parser.specs.inner.Grammar.{form_of};
+ghost use Rattle.sa_parser.specs.inner.Judgement.{IsFirstFaulty};
 
-use crate::cursor::Cursor;
-use crate::fault::ReadFault;
-use crate::setup::setup;
-use crate::statement::statement;
-use sa_ast::Statement;
+use crate::judgement::{judge_directive, judge_setup, judge_statement};
+use sa_lexer::Token;
+use sa_value::OutOfMemory;
 use std::alloc::Global;
 
-/// Which statements are parsed.
+/// What tokens are read as.
 #[derive(Clone, Copy, Debug, PartialEq, Eq)]
 pub(crate) enum Grammar {
-    /// Those of a session.
+    /// The statements of a session.
     Session,
-    /// Those that set tables up.
+    /// The statements that set tables up.
     Setup,
+    /// The directives of a script.
+    Script,
 }
 
 impl Grammar {
-    /// Reads a statement. No expression nests deeper than there are tokens.
-    pub(crate) fn read(self, alloc: Global, cursor: &mut Cursor<'_>) -> Result<Statement, ReadFault>
-        ensures { Reads (read_by self cursor.old) result cursor.new }
+    /// How many tokens stand before the first with which they begin nothing, if there is one.
+    pub(crate) fn first_faulty(
+        self,
+        alloc: Global,
+        tokens: &[Token],
+    ) -> Result<Option<usize>, OutOfMemory>
+        ensures { IfOk result (IsFirstFaulty (form_of self) tokens.now) }
     {
         match self {
-            Grammar::Session => {
-                let levels = cursor.left();
-                statement(alloc, levels, cursor)
-            }
-            Grammar::Setup => setup(alloc, cursor),
+            Grammar::Session => Ok(judge_statement(alloc, tokens)?.first_faulty(tokens.len())),
+            Grammar::Setup => Ok(judge_setup(alloc, tokens)?.first_faulty(tokens.len())),
+            Grammar::Script => Ok(judge_directive(alloc, tokens)?.first_faulty(tokens.len())),
         }
+    }
+
+    /// Whether the tokens and some behind them are something of this grammar.
+    pub(crate) fn begins(self, alloc: Global, tokens: &[Token]) -> Result<bool, OutOfMemory>
+        ensures { IfOk result (λ found. IsTrue found ↔ Begins (form_of self) tokens.now) }
+    {
+        Ok(self.first_faulty(alloc, tokens)?.is_none())
     }
 }

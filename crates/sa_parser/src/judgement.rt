@@ -1,45 +1,87 @@
-ghost use Rattle.std.specs.Prelude.{◌≡◌, ◌≤◌, ◌↔◌, length, IfOk, IsTrue};
-ghost use Rattle.sa_parser.specs.Fault.{Begins};
-ghost use Rattle.sa_parser.specs.Grammar.{form_of};
-ghost use Rattle.sa_parser.specs.Judgement.{IsJudgement, IsFirstFaulty, whole_or_faulty};
+ghost use Rattle.std.specs.Prelude.{◌≡◌, ◌≤◌, IfOk};
+ghost use Rattle.sa_parser.specs.Parse.{IsStatement, IsSetup, IsDirective};
+ghost use Rattle.sa_parser.specs.inner.Judgement as spec;
+ghost use Rattle.sa_parser.specs.inner.Judgement.{IsJudgement, Tells, LeavesWithin};
 
 use crate::cursor::Cursor;
+use crate::directive::directive;
 use crate::fault::ReadFault;
-use crate::grammar::Grammar;
-use sa_ast::Statement;
+use crate::setup::setup;
+use crate::statement::statement;
+use sa_ast::{Directive, Statement};
 use sa_lexer::Token;
 use sa_value::OutOfMemory;
 use std::alloc::Global;
 
 /// What reading tells of tokens.
 #[derive(Debug, Drop)]
-pub(crate) enum Judgement {
-    /// They are this statement.
-    Whole(Statement),
+pub(crate) enum Judgement<T> {
+    /// They are this.
+    Whole(T),
     /// So many of them stand before the first fault.
     Faulty(usize),
 }
 
-/// Reads all of the tokens.
-pub(crate) fn judge(
+/// Reads all of the tokens as a statement of a session. No expression nests deeper than there are
+/// tokens.
+pub(crate) fn judge_statement(
     alloc: Global,
-    grammar: Grammar,
     tokens: &[Token],
-) -> Result<Judgement, OutOfMemory>
-    ensures { IfOk result (λ judgement. IsJudgement (form_of grammar) tokens.now judgement) }
+) -> Result<Judgement<Statement>, OutOfMemory>
+    ensures { IfOk result (IsJudgement IsStatement tokens.now) }
 {
     let mut cursor = Cursor::new(tokens);
-    match grammar.read(alloc, &mut cursor) {
-        Ok(tree) => Ok(whole_or_faulty(tree, tokens.len(), cursor.left())),
-        Err(ReadFault::Left(left)) => Ok(Judgement::Faulty(tokens.len() - left)),
+    let levels = cursor.left();
+    let read = statement(alloc, levels, &mut cursor);
+    judged(read, levels, cursor.left())
+}
+
+/// Reads all of the tokens as a statement that sets tables up.
+pub(crate) fn judge_setup(
+    alloc: Global,
+    tokens: &[Token],
+) -> Result<Judgement<Statement>, OutOfMemory>
+    ensures { IfOk result (IsJudgement IsSetup tokens.now) }
+{
+    let mut cursor = Cursor::new(tokens);
+    let all = cursor.left();
+    let read = setup(alloc, &mut cursor);
+    judged(read, all, cursor.left())
+}
+
+/// Reads all of the tokens as a directive of a script.
+pub(crate) fn judge_directive(
+    alloc: Global,
+    tokens: &[Token],
+) -> Result<Judgement<Directive>, OutOfMemory>
+    ensures { IfOk result (IsJudgement IsDirective tokens.now) }
+{
+    let mut cursor = Cursor::new(tokens);
+    let all = cursor.left();
+    let read = directive(alloc, &mut cursor);
+    judged(read, all, cursor.left())
+}
+
+/// What was read of all tokens tells, where so many are left.
+fn judged<T: Drop>(
+    read: Result<T, ReadFault>,
+    all: usize,
+    left: usize,
+) -> Result<Judgement<T>, OutOfMemory>
+    requires { LeavesWithin read all left }
+    ensures { IfOk result (Tells read all left) }
+{
+    match read {
+        Ok(tree) => Ok(whole_or_faulty(tree, all, left)),
+        Err(ReadFault::Left(left)) => Ok(Judgement::Faulty(all - left)),
         Err(ReadFault::OutOfMemory) => Err(OutOfMemory),
     }
 }
 
-/// The statement, or the fault that is the first of the tokens left behind it.
-fn whole_or_faulty(tree: Statement, all: usize, left: usize) -> Judgement
+/// The whole, or the fault that is the first of the tokens left behind it.
+fn whole_or_faulty<T: Drop>(tree: T, all: usize, left: usize) -> Judgement<T>
     requires { left ≤ all }
-    ensures { result ≡ whole_or_faulty tree all left }
+    ensures { result ≡ spec.whole_or_faulty tree all left }
 {
     if left == 0 {
         return Judgement::Whole(tree);
@@ -48,26 +90,17 @@ fn whole_or_faulty(tree: Statement, all: usize, left: usize) -> Judgement
     Judgement::Faulty(all - left)
 }
 
-/// How many tokens stand before the first with which they begin no statement, if there is one.
-pub(crate) fn first_faulty(
-    alloc: Global,
-    grammar: Grammar,
-    tokens: &[Token],
-) -> Result<Option<usize>, OutOfMemory>
-    ensures { IfOk result (IsFirstFaulty (form_of grammar) tokens.now) }
-{
-    match judge(alloc, grammar, tokens)? {
-        Judgement::Whole(tree) => {
-            drop(tree);
-            Ok(None)
+impl<T: Drop> Judgement<T> {
+    /// How many of so many tokens stand before the faulty one, if there is one among them.
+    pub(crate) fn first_faulty(self, all: usize) -> Option<usize>
+        ensures { result ≡ spec.first_of self all }
+    {
+        match self {
+            Judgement::Whole(tree) => {
+                drop(tree);
+                None
+            }
+            Judgement::Faulty(count) => { if count == all { None } else { Some(count) } }
         }
-        Judgement::Faulty(count) => Ok(Some(count).filter(|count| *count < tokens.len())),
     }
-}
-
-/// Whether the tokens and some behind them are a statement.
-pub(crate) fn begins(alloc: Global, grammar: Grammar, tokens: &[Token]) -> Result<bool, OutOfMemory>
-    ensures { IfOk result (λ found. IsTrue found ↔ Begins (form_of grammar) tokens.now) }
-{
-    Ok(first_faulty(alloc, grammar, tokens)?.is_none())
 }

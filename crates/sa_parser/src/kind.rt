@@ -4,12 +4,11 @@
 ghost use Rattle.std.specs.Prelude.{◌≡◌, ◌↔◌, ◌∷◌, ◌++◌, [], IfOk, IsTrue};
 ghost use Rattle.sa_parser.specs.Fault as spec;
 ghost use Rattle.sa_parser.specs.Fault.{Begins, in_place_of, ReadAsName, StandsForKind, AsksForMore};
-ghost use Rattle.sa_parser.specs.Grammar.{form_of};
+ghost use Rattle.sa_parser.specs.inner.Grammar.{form_of};
 
 use crate::copied::copied;
 use crate::cursor::name_of;
 use crate::grammar::Grammar;
-use crate::judgement::begins;
 use crate::words::is_among;
 use sa_lexer::{Sign, Token, TokenKind};
 use sa_value::{OutOfMemory, Text};
@@ -143,5 +142,5 @@ fn begins_with(
         start: last.start,
         end: last.end,
     })?;
-    begins(alloc, grammar, &tokens)
+    grammar.begins(alloc, &tokens)
 }

@@ -1,4 +1,4 @@
-//! The tree of a statement out of its tokens, or the first fault in them.
+//! The tree of a statement or of a directive out of its tokens, or the first fault in them.
 //!
 //! The grammar is a relation between tokens and trees. What is read, and which fault is answered where, is proved
 //! against it; so the place of a fault is a matter of the language, and not of the way in which it is read.
@@ -10,6 +10,7 @@ mod commas;
 mod copied;
 mod cursor;
 mod depth;
+mod directive;
 mod expression;
 mod fault;
 mod grammar;
@@ -34,8 +35,5 @@ mod words;
 
 pub use answer::ParseFault;
 pub use canonical::canonical_text_is_unique;
-pub use parser::{parse, parse_setup};
-pub use unique::{tokens_have_one_answer, tokens_have_one_tree};
-
-#[cfg(test)]
-mod tests;
+pub use parser::{parse, parse_directive, parse_setup};
+pub use unique::{tokens_have_an_answer, tokens_have_one_answer, tokens_have_one_tree};

@@ -1,18 +1,18 @@
-ghost use Rattle.std.specs.Prelude.{◌≡◌, ◌≤◌, length, take, drop, Err, Some, IfOk};
-ghost use Rattle.sa_parser.specs.Answer.{IsFirstTooDeep, TellsFault};
+ghost use Rattle.std.specs.Prelude.{◌≡◌, ◌≤◌, length, take, drop, Err, Some, IfOk, IfErr, OnOk};
+ghost use Rattle.sa_parser.specs.inner.Answer.{IsFirstTooDeep, TellsFault};
 ghost use Rattle.sa_parser.specs.Depth.{StaysFlat};
 ghost use Rattle.sa_parser.specs.Fault as fault;
-ghost use Rattle.sa_parser.specs.Grammar.{form_of};
-ghost use Rattle.sa_parser.specs.Parse.{IsStatement, IsSetup, IsAnswer, SetsUp};
+ghost use Rattle.sa_parser.specs.inner.Grammar.{form_of};
+ghost use Rattle.sa_parser.specs.Parse.{IsStatement, IsSetup, IsDirective, IsAnswer, SetsUp};
 ghost use Rattle.sa_print.specs.Statement.{HasText};
 
 use crate::answer::ParseFault;
 use crate::cursor::is_sign;
 use crate::depth::first_too_deep;
 use crate::grammar::Grammar;
-use crate::judgement::{Judgement, first_faulty, judge};
+use crate::judgement::{Judgement, judge_directive, judge_setup, judge_statement};
 use crate::kind::is_unsupported;
-use sa_ast::Statement;
+use sa_ast::{Directive, Statement};
 use sa_lexer::{Sign, Token, Tokens};
 use sa_value::OutOfMemory;
 use std::alloc::Global;
@@ -28,7 +28,12 @@ pub fn parse(alloc: Global, tokens: &Tokens) -> Result<Statement, ParseFault>
     // It has a canonical text.
     ensures text { IfOk result HasText }
 {
-    parse_by(alloc, Grammar::Session, tokens.as_slice())
+    let tokens = tokens.as_slice();
+    stays_flat(alloc, Grammar::Session, tokens)?;
+    match judge_statement(alloc, tokens)? {
+        Judgement::Whole(tree) => Ok(tree),
+        Judgement::Faulty(count) => Err(fault_behind(alloc, Grammar::Session, tokens, count)?),
+    }
 }
 
 /// The tree of a statement that sets tables up: a CREATE TABLE or an INSERT.
@@ -40,27 +45,38 @@ pub fn parse_setup(alloc: Global, tokens: &Tokens) -> Result<Statement, ParseFau
     ensures answer { IsAnswer IsSetup tokens.now result }
     ensures sets_up { IfOk result SetsUp }
 {
-    parse_by(alloc, Grammar::Setup, tokens.as_slice())
-}
-
-/// The tree of a statement of the grammar.
-fn parse_by(alloc: Global, grammar: Grammar, tokens: &[Token]) -> Result<Statement, ParseFault>
-    ensures { IsAnswer (form_of grammar) tokens.now result }
-{
-    match first_too_deep(tokens) {
-        None => parse_flat(alloc, grammar, tokens),
-        Some(place) => Err(fault_up_to(alloc, grammar, tokens, place)?),
+    let tokens = tokens.as_slice();
+    stays_flat(alloc, Grammar::Setup, tokens)?;
+    match judge_setup(alloc, tokens)? {
+        Judgement::Whole(tree) => Ok(tree),
+        Judgement::Faulty(count) => Err(fault_behind(alloc, Grammar::Setup, tokens, count)?),
     }
 }
 
-/// The tree of tokens that go nowhere too deep.
-fn parse_flat(alloc: Global, grammar: Grammar, tokens: &[Token]) -> Result<Statement, ParseFault>
-    requires { StaysFlat tokens.now }
-    ensures { IsAnswer (form_of grammar) tokens.now result }
+/// The tree of a directive of a script.
+///
+/// # Errors
+///
+/// Those of [`parse`], where no directive begins so.
+pub fn parse_directive(alloc: Global, tokens: &Tokens) -> Result<Directive, ParseFault>
+    ensures { IsAnswer IsDirective tokens.now result }
 {
-    match judge(alloc, grammar, tokens)? {
+    let tokens = tokens.as_slice();
+    stays_flat(alloc, Grammar::Script, tokens)?;
+    match judge_directive(alloc, tokens)? {
         Judgement::Whole(tree) => Ok(tree),
-        Judgement::Faulty(count) => Err(fault_behind(alloc, grammar, tokens, count)?),
+        Judgement::Faulty(count) => Err(fault_behind(alloc, Grammar::Script, tokens, count)?),
+    }
+}
+
+/// That no token goes too deep. Else the fault is that, or one before it.
+fn stays_flat(alloc: Global, grammar: Grammar, tokens: &[Token]) -> Result<(), ParseFault>
+    ensures flat { OnOk result (StaysFlat tokens.now) }
+    ensures deep { IfErr result (λ fault. IsAnswer (form_of grammar) tokens.now (Err fault)) }
+{
+    match first_too_deep(tokens) {
+        None => Ok(()),
+        Some(place) => Err(fault_up_to(alloc, grammar, tokens, place)?),
     }
 }
 
@@ -81,7 +97,7 @@ fn fault_up_to(
     } else {
         place
     };
-    match first_faulty(alloc, grammar, &tokens[..judged])? {
+    match grammar.first_faulty(alloc, &tokens[..judged])? {
         None => Ok(ParseFault::TooDeep { place: token.start }),
         Some(count) => fault_behind(alloc, grammar, tokens, count),
     }

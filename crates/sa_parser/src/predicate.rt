@@ -1,9 +1,9 @@
 //! Predicates: a sum, and what is said of it.
 
-ghost use Rattle.sa_parser.specs.ExprReading as reading;
+ghost use Rattle.sa_parser.specs.inner.ExprReading as reading;
 ghost use Rattle.std.specs.Prelude.{codes};
-ghost use Rattle.sa_parser.specs.Reading.{commas, either, sees_word};
-ghost use Rattle.sa_parser.specs.Reads.{Reads};
+ghost use Rattle.sa_parser.specs.inner.Reading.{commas, either, sees_word};
+ghost use Rattle.sa_parser.specs.inner.Reads.{Reads};
 
 use crate::cursor::Cursor;
 use crate::fault::ReadFault;
@@ -17,7 +17,7 @@ use std::alloc::Global;
 
 /// A sum, alone or with what makes a predicate of it.
 #[cycle(nesting)]
-#[tactic(auto, unfolding(crate::specs::ExprReading::predicate, crate::specs::Reading::perhaps, crate::specs::Reading::made, crate::specs::Reading::then_read))]
+#[tactic(auto, unfolding(crate::specs::inner::ExprReading::predicate, crate::specs::inner::Reading::perhaps, crate::specs::inner::Reading::made, crate::specs::inner::Reading::then_read))]
 pub(crate) fn predicate(
     alloc: Global,
     levels: usize,
@@ -36,7 +36,7 @@ pub(crate) fn predicate(
 
 /// What makes a predicate of the sum before it.
 #[cycle(nesting)]
-#[tactic(auto, unfolding(crate::specs::ExprReading::predicate_part, crate::specs::Reading::either))]
+#[tactic(auto, unfolding(crate::specs::inner::ExprReading::predicate_part, crate::specs::inner::Reading::either))]
 fn predicate_part(
     alloc: Global,
     levels: usize,
@@ -55,7 +55,7 @@ fn predicate_part(
 
 /// A comparison with another sum.
 #[cycle(nesting)]
-#[tactic(auto, unfolding(crate::specs::ExprReading::compare_part, crate::specs::Reading::made, crate::specs::Reading::then_read))]
+#[tactic(auto, unfolding(crate::specs::inner::ExprReading::compare_part, crate::specs::inner::Reading::made, crate::specs::inner::Reading::then_read))]
 fn compare_part(
     alloc: Global,
     levels: usize,
@@ -70,7 +70,7 @@ fn compare_part(
 }
 
 /// `IS NULL` or `IS NOT NULL`.
-#[tactic(auto, unfolding(crate::specs::ExprReading::null_part, crate::specs::Reading::perhaps, crate::specs::Reading::made, crate::specs::Reading::then_read))]
+#[tactic(auto, unfolding(crate::specs::inner::ExprReading::null_part, crate::specs::inner::Reading::perhaps, crate::specs::inner::Reading::made, crate::specs::inner::Reading::then_read))]
 fn null_part(cursor: &mut Cursor<'_>) -> Result<PlacedTail, ReadFault>
     ensures { Reads (reading.null_part cursor.old) result cursor.new }
 {
@@ -86,7 +86,7 @@ fn null_part(cursor: &mut Cursor<'_>) -> Result<PlacedTail, ReadFault>
 
 /// `BETWEEN` or `IN`, with NOT in front or without it.
 #[cycle(nesting)]
-#[tactic(auto, unfolding(crate::specs::ExprReading::range_part, crate::specs::Reading::either, crate::specs::Reading::perhaps, crate::specs::Reading::made, crate::specs::Reading::then_read))]
+#[tactic(auto, unfolding(crate::specs::inner::ExprReading::range_part, crate::specs::inner::Reading::either, crate::specs::inner::Reading::perhaps, crate::specs::inner::Reading::made, crate::specs::inner::Reading::then_read))]
 fn range_part(
     alloc: Global,
     levels: usize,
@@ -107,7 +107,7 @@ fn range_part(
 
 /// `BETWEEN` or `IN`.
 #[cycle(nesting)]
-#[tactic(auto, unfolding(crate::specs::Reading::either))]
+#[tactic(auto, unfolding(crate::specs::inner::Reading::either))]
 fn plain_range_part(
     alloc: Global,
     levels: usize,
@@ -125,7 +125,7 @@ fn plain_range_part(
 
 /// Between two sums.
 #[cycle(nesting)]
-#[tactic(auto, unfolding(crate::specs::ExprReading::between_part, crate::specs::Reading::made, crate::specs::Reading::then_read))]
+#[tactic(auto, unfolding(crate::specs::inner::ExprReading::between_part, crate::specs::inner::Reading::made, crate::specs::inner::Reading::then_read))]
 fn between_part(
     alloc: Global,
     levels: usize,
@@ -147,7 +147,7 @@ fn between_part(
 
 /// Among some sums.
 #[cycle(nesting)]
-#[tactic(auto, unfolding(crate::specs::ExprReading::among_part, crate::specs::Reading::made, crate::specs::Reading::then_read))]
+#[tactic(auto, unfolding(crate::specs::inner::ExprReading::among_part, crate::specs::inner::Reading::made, crate::specs::inner::Reading::then_read))]
 fn among_part(
     alloc: Global,
     levels: usize,
@@ -168,7 +168,7 @@ fn among_part(
 
 /// One or more sums, with commas between them.
 #[cycle(nesting)]
-#[tactic(auto, using(crate::proofs::ReadingChains::turns), unfolding(crate::specs::Reading::chain, crate::specs::Reading::made, crate::specs::Reading::then_read))]
+#[tactic(auto, using(crate::proofs::ReadingChains::turns), unfolding(crate::specs::inner::Reading::chain, crate::specs::inner::Reading::made, crate::specs::inner::Reading::then_read))]
 fn sums(alloc: Global, levels: usize, cursor: &mut Cursor<'_>) -> Result<ExprTrees, ReadFault>
     ensures { Reads (commas (reading.sum (reading.nested_read levels)) cursor.old) result cursor.new }
 {

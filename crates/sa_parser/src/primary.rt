@@ -1,8 +1,8 @@
 //! The expressions that no operator takes apart.
 
-ghost use Rattle.sa_parser.specs.ExprReading as reading;
-ghost use Rattle.sa_parser.specs.Reading.{either, made, sees_sign, sign};
-ghost use Rattle.sa_parser.specs.Reads.{Reads};
+ghost use Rattle.sa_parser.specs.inner.ExprReading as reading;
+ghost use Rattle.sa_parser.specs.inner.Reading.{either, made, sees_sign, sign};
+ghost use Rattle.sa_parser.specs.inner.Reads.{Reads};
 
 use crate::cursor::Cursor;
 use crate::expression::nested;
@@ -17,7 +17,7 @@ use std::alloc::Global;
 /// An expression in brackets, the call of an aggregate, a column, or a token that is an
 /// expression by itself.
 #[cycle(nesting)]
-#[tactic(auto, unfolding(crate::specs::ExprReading::primary, crate::specs::Reading::either, crate::specs::Reading::made, crate::specs::Reading::then_read))]
+#[tactic(auto, unfolding(crate::specs::inner::ExprReading::primary, crate::specs::inner::Reading::either, crate::specs::inner::Reading::made, crate::specs::inner::Reading::then_read))]
 pub(crate) fn primary(
     alloc: Global,
     levels: usize,
@@ -41,7 +41,7 @@ pub(crate) fn primary(
 
 /// The call of an aggregate.
 #[cycle(nesting)]
-#[tactic(auto, unfolding(crate::specs::ExprReading::call, crate::specs::Reading::either, crate::specs::Reading::made, crate::specs::Reading::then_read))]
+#[tactic(auto, unfolding(crate::specs::inner::ExprReading::call, crate::specs::inner::Reading::either, crate::specs::inner::Reading::made, crate::specs::inner::Reading::then_read))]
 fn call(alloc: Global, levels: usize, cursor: &mut Cursor<'_>) -> Result<Boxed<ExprTree>, ReadFault>
     ensures { Reads (reading.call (reading.nested_read levels) cursor.old) result cursor.new }
 {
@@ -62,7 +62,7 @@ fn call(alloc: Global, levels: usize, cursor: &mut Cursor<'_>) -> Result<Boxed<E
 
 /// What COUNT is of: no argument, where it is of all rows, or one.
 #[cycle(nesting)]
-#[tactic(auto, unfolding(crate::specs::Reading::either, crate::specs::Reading::made))]
+#[tactic(auto, unfolding(crate::specs::inner::Reading::either, crate::specs::inner::Reading::made))]
 fn counted(
     alloc: Global,
     levels: usize,
@@ -80,7 +80,7 @@ fn counted(
 }
 
 /// A column, after the name of its table and a dot or without them.
-#[tactic(auto, unfolding(crate::specs::ExprReading::column, crate::specs::Reading::perhaps, crate::specs::Reading::made, crate::specs::Reading::then_read))]
+#[tactic(auto, unfolding(crate::specs::inner::ExprReading::column, crate::specs::inner::Reading::perhaps, crate::specs::inner::Reading::made, crate::specs::inner::Reading::then_read))]
 pub(crate) fn column(alloc: Global, cursor: &mut Cursor<'_>) -> Result<Boxed<ExprTree>, ReadFault>
     ensures { Reads (reading.column cursor.old) result cursor.new }
 {

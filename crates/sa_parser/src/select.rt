@@ -1,9 +1,9 @@
 //! Queries.
 
 ghost use Rattle.sa_parser.specs.declared.rule.Rule.TheVariants as rules;
-ghost use Rattle.sa_parser.specs.ExprReading.{nested_read};
-ghost use Rattle.sa_parser.specs.SelectReading as reading;
-ghost use Rattle.sa_parser.specs.Reads.{Reads};
+ghost use Rattle.sa_parser.specs.inner.ExprReading.{nested_read};
+ghost use Rattle.sa_parser.specs.inner.SelectReading as reading;
+ghost use Rattle.sa_parser.specs.inner.Reads.{Reads};
 
 mod alias;
 mod condition;
@@ -26,7 +26,7 @@ use sqlite_items::Boxed;
 use std::alloc::Global;
 
 /// A query.
-#[tactic(auto, unfolding(crate::specs::SelectReading::select, crate::specs::SelectReading::where_part, crate::specs::Reading::made, crate::specs::Reading::then_read))]
+#[tactic(auto, unfolding(crate::specs::inner::SelectReading::select, crate::specs::inner::SelectReading::where_part, crate::specs::inner::Reading::made, crate::specs::inner::Reading::then_read))]
 pub(crate) fn select(
     alloc: Global,
     levels: usize,
@@ -63,7 +63,7 @@ pub(crate) fn select(
 }
 
 /// Whether DISTINCT is written, and not ALL or neither.
-#[tactic(auto, unfolding(crate::specs::SelectReading::distinct, crate::specs::Reading::made, crate::specs::Reading::perhaps, crate::specs::Reading::either))]
+#[tactic(auto, unfolding(crate::specs::inner::SelectReading::distinct, crate::specs::inner::Reading::made, crate::specs::inner::Reading::perhaps, crate::specs::inner::Reading::either))]
 fn distinct(cursor: &mut Cursor<'_>) -> Result<bool, ReadFault>
     ensures { Reads (reading.distinct cursor.old) result cursor.new }
 {

@@ -1,7 +1,7 @@
 //! The statements that set tables up.
 
-ghost use Rattle.sa_parser.specs.SetupReading as reading;
-ghost use Rattle.sa_parser.specs.Reads.{Reads};
+ghost use Rattle.sa_parser.specs.inner.SetupReading as reading;
+ghost use Rattle.sa_parser.specs.inner.Reads.{Reads};
 
 mod column;
 mod create;
@@ -17,7 +17,7 @@ use sa_ast::Statement;
 use std::alloc::Global;
 
 /// A statement that sets tables up.
-#[tactic(auto, unfolding(crate::specs::SetupReading::setup_read, crate::specs::Reading::either, crate::specs::Reading::made))]
+#[tactic(auto, unfolding(crate::specs::inner::SetupReading::setup_read, crate::specs::inner::Reading::either, crate::specs::inner::Reading::made))]
 pub(crate) fn setup(alloc: Global, cursor: &mut Cursor<'_>) -> Result<Statement, ReadFault>
     ensures { Reads (reading.setup_read cursor.old) result cursor.new }
 {

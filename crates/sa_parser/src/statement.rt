@@ -1,7 +1,7 @@
 //! The statements of a session.
 
-ghost use Rattle.sa_parser.specs.StatementReading as reading;
-ghost use Rattle.sa_parser.specs.Reads.{Reads};
+ghost use Rattle.sa_parser.specs.inner.StatementReading as reading;
+ghost use Rattle.sa_parser.specs.inner.Reads.{Reads};
 
 mod kill;
 mod plan;
@@ -23,7 +23,7 @@ use sa_ast::Statement;
 use std::alloc::Global;
 
 /// A statement of a session, with expressions so many levels deep.
-#[tactic(auto, unfolding(crate::specs::StatementReading::statement_read, crate::specs::Reading::either, crate::specs::Reading::made))]
+#[tactic(auto, unfolding(crate::specs::inner::StatementReading::statement_read, crate::specs::inner::Reading::either, crate::specs::inner::Reading::made))]
 pub(crate) fn statement(
     alloc: Global,
     levels: usize,

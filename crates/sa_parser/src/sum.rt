@@ -1,7 +1,7 @@
 //! Sums and products.
 
-ghost use Rattle.sa_parser.specs.ExprReading as reading;
-ghost use Rattle.sa_parser.specs.Reads.{Reads};
+ghost use Rattle.sa_parser.specs.inner.ExprReading as reading;
+ghost use Rattle.sa_parser.specs.inner.Reads.{Reads};
 
 use crate::cursor::Cursor;
 use crate::expression::nested;
@@ -16,7 +16,7 @@ use std::alloc::Global;
 
 /// Terms with a plus or a minus between them.
 #[cycle(nesting)]
-#[tactic(auto, using(crate::proofs::ReadingChains::turns), unfolding(crate::specs::ExprReading::sum, crate::specs::Reading::chain, crate::specs::Reading::made, crate::specs::Reading::then_read))]
+#[tactic(auto, using(crate::proofs::ReadingChains::turns), unfolding(crate::specs::inner::ExprReading::sum, crate::specs::inner::Reading::chain, crate::specs::inner::Reading::made, crate::specs::inner::Reading::then_read))]
 pub(crate) fn sum(
     alloc: Global,
     levels: usize,
@@ -39,7 +39,7 @@ pub(crate) fn sum(
 
 /// Factors with a star between them.
 #[cycle(nesting)]
-#[tactic(auto, using(crate::proofs::ReadingChains::turns), unfolding(crate::specs::ExprReading::term, crate::specs::Reading::chain, crate::specs::Reading::made, crate::specs::Reading::then_read))]
+#[tactic(auto, using(crate::proofs::ReadingChains::turns), unfolding(crate::specs::inner::ExprReading::term, crate::specs::inner::Reading::chain, crate::specs::inner::Reading::made, crate::specs::inner::Reading::then_read))]
 fn term(alloc: Global, levels: usize, cursor: &mut Cursor<'_>) -> Result<Boxed<ExprTree>, ReadFault>
     ensures { Reads (reading.term (reading.nested_read levels) cursor.old) result cursor.new }
 {
@@ -58,7 +58,7 @@ fn term(alloc: Global, levels: usize, cursor: &mut Cursor<'_>) -> Result<Boxed<E
 
 /// What has a sign in front, or stands by itself.
 #[cycle(nesting)]
-#[tactic(auto, unfolding(crate::specs::ExprReading::factor, crate::specs::Reading::either, crate::specs::Reading::made, crate::specs::Reading::then_read))]
+#[tactic(auto, unfolding(crate::specs::inner::ExprReading::factor, crate::specs::inner::Reading::either, crate::specs::inner::Reading::made, crate::specs::inner::Reading::then_read))]
 pub(crate) fn factor(
     alloc: Global,
     levels: usize,

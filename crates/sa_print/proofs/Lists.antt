@@ -1,17 +1,11 @@
--- What holds of lists and of the tests and texts that are made of them.
-use Rattle.std.proofs.Common.{◌≡◌, ℕ, ◌<◌, ◌≤◌, Bool, List, [], ◌∷◌, ◌++◌, map, take, drop, get_or, length, refl, ap, sym, ◌∙◌, arith, append_assoc}
+-- What holds of lists and of the texts that are made of them.
+use Rattle.std.proofs.Common.{◌≡◌, ℕ, ◌<◌, ◌≤◌, List, [], ◌∷◌, ◌++◌, map, take, drop, get_or, length, refl, ap, sym, ◌∙◌, arith, append_assoc}
 use Rattle.std.proofs.Math.Seq.{take-length}
-use Rattle.std.specs.Prelude.{◌||◌, flat_map}
-use Rattle.std.specs.List.{list_any}
+use Rattle.std.specs.Prelude.{flat_map}
 use Rattle.std.proofs.lemmas.List.Folds.{flat_map-map}
 use Rattle.sa_ast.specs.declared.select.TableTree.{TableTree}
 use Rattle.sa_print.specs.Lists.{joined, listed, list_clause}
 use Rattle.sa_print.specs.Select.{join_text, table_text, tables_text}
-
--- a test of what a function sees
-pub list_any-map : {X Y : Type 0} (p : Y → Bool) (f : X → Y) (xs : List X) → list_any p (map f xs) ≡ list_any (λ x. p (f x)) xs
-list_any-map p f [] = refl
-list_any-map p f (x ∷ xs) = ap (λ (b : Bool). p (f x) || b) (list_any-map p f xs)
 
 -- nothing is left past the end
 pub take_whole : {X : Type 0} (n : ℕ) (xs : List X) → n ≤ length xs → length xs ≤ n → take n xs ≡ xs

@@ -10,7 +10,7 @@ use Rattle.sa_ast.specs.declared.expression.ExprNode.TheVariants as node
 use Rattle.sa_ast.specs.declared.expression.ExprTree.{ExprTree, roll-ExprTree, the_lemmas}
 use Rattle.sa_print.specs.Quoted.{between_quotes, canonical_literal}
 use Rattle.sa_print.specs.Name.{canonical_name}
-use Rattle.sa_print.specs.Reserved.{is_reserved}
+use Rattle.sa_lexer.specs.Reserved.{is_reserved}
 use Rattle.sa_print.specs.Expression.{canonical_expr}
 
 -- names

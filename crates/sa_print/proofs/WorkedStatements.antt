@@ -17,7 +17,7 @@ use Rattle.sa_ast.specs.declared.select.SelectTree.{SelectTree}
 use Rattle.sa_ast.specs.declared.statement.Statement.{Statement}
 use Rattle.sa_ast.specs.declared.statement.Statement.TheVariants.{Select, Explain, Analyze, Show, Kill, SetTrace, SetLimit, TraceRows, Wait}
 use Rattle.sa_print.specs.Name.{canonical_name}
-use Rattle.sa_print.specs.Reserved.{is_reserved}
+use Rattle.sa_lexer.specs.Reserved.{is_reserved}
 use Rattle.sa_print.specs.Statement.{canonical_statement}
 
 abbrev texts : List Statement → List (List ℕ)

@@ -1,4 +1,3 @@
-pub mod Reserved
 pub mod Quoted
 pub mod Name
 pub mod Lists

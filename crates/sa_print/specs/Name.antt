@@ -4,7 +4,7 @@ use Rattle.std.specs.Char.{is_ascii_digit}
 use Rattle.std.specs.List.{list_all}
 use Rattle.sa_lexer.specs.Byte.{is_word_byte}
 use Rattle.sa_print.specs.Quoted.{quoted}
-use Rattle.sa_print.specs.Reserved.{is_reserved}
+use Rattle.sa_lexer.specs.Reserved.{is_reserved}
 
 -- A word has word bytes alone, at least one, and doesn't begin with a digit.
 abbrev pub is_word : List ℕ → Bool

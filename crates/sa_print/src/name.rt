@@ -6,8 +6,8 @@ ghost use Rattle.sa_print.specs.Name.{is_word, canonical_name, canonical_column,
 ghost use Rattle.sa_print.specs.Select.{name_in};
 
 use crate::printer::Printer;
-use crate::reserved::is_reserved;
 use sa_ast::NameTree;
+use sa_lexer::is_reserved;
 use sa_value::{OutOfMemory, Text};
 
 impl Printer {

@@ -4,9 +4,9 @@ use Rattle.std.proofs.Common.{◌≡◌, ℕ, ◌+◌, ◌-◌, ◌*◌, [], ◌
 use Rattle.sa_lexer.specs.declared.sign.Sign.TheVariants as signs
 use Rattle.sa_parser.specs.declared.members.Members.TheVariants.{Alone}
 use Rattle.sa_parser.specs.Tree.{additive_in, sum_tree, times_tree, with_member}
-use Rattle.sa_parser.specs.Reading.{chain, commas, more, one, sees_sign, sees_word, sign, word, ◌<$>◌, ◌<*>◌}
-use Rattle.sa_parser.specs.ExprReading as reading
-use Rattle.sa_parser.specs.ExprReading.{nested_read}
+use Rattle.sa_parser.specs.inner.Reading.{chain, commas, more, one, sees_sign, sees_word, sign, word, ◌<$>◌, ◌<*>◌}
+use Rattle.sa_parser.specs.inner.ExprReading as reading
+use Rattle.sa_parser.specs.inner.ExprReading.{nested_read}
 use Rattle.sa_parser.proofs.+nesting.Given as goal
 
 -- what is left to do at a rule of this rank

@@ -6,7 +6,7 @@ use Rattle.sa_lexer.specs.declared.sign.Sign.TheVariants as signs
 use Rattle.sa_lexer.specs.declared.token.TokenKind.{TokenKind}
 use Rattle.sa_lexer.specs.declared.token.TokenKind.TheVariants as kinds
 use Rattle.sa_ast.specs.declared.name.NameTree.{NameTree}
-use Rattle.sa_print.specs.Reserved.{is_reserved}
+use Rattle.sa_lexer.specs.Reserved.{is_reserved}
 use Rattle.sa_parser.specs.Token.{name_of, name_in, number_of, number_in, any_number_of, any_number_in}
 use Rattle.sa_parser.specs.Form.{Form, Sign, Name, Number, NumberBelow, Brackets, Commas, ◌<$>◌, ◌<*>◌}
 use Rattle.sa_parser.proofs.canonical_text.Columns.{IsName}

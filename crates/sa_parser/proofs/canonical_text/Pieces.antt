@@ -19,7 +19,7 @@ use Rattle.sa_lexer.specs.Grammar.{Ends}
 use Rattle.sa_print.specs.Lists.{bracketed}
 use Rattle.sa_print.specs.Name.{is_word, canonical_name}
 use Rattle.sa_print.specs.Quoted.{quoted, canonical_literal}
-use Rattle.sa_print.specs.Reserved.{is_reserved}
+use Rattle.sa_lexer.specs.Reserved.{is_reserved}
 use Rattle.sa_parser.proofs.canonical_text.Lexed.{Quiet, quiet_at, Free, Lexed, token_at, token-Lexed, space-Lexed, joined-Lexed, narrowed-Lexed}
 use Rattle.sa_parser.proofs.canonical_text.Quoting.{in_quotes}
 use Rattle.sa_parser.proofs.canonical_text.Read.{numerals}

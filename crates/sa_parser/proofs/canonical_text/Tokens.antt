@@ -6,7 +6,7 @@ use Rattle.sa_lexer.specs.declared.sign.Sign as signs
 use Rattle.sa_lexer.specs.declared.token.TokenKind.TheVariants as kinds
 use Rattle.sa_ast.specs.declared.name.NameTree.{NameTree}
 use Rattle.sa_print.specs.Name.{is_word}
-use Rattle.sa_print.specs.Reserved.{is_reserved}
+use Rattle.sa_lexer.specs.Reserved.{is_reserved}
 use Rattle.sa_parser.specs.Token.{is_word as is_word_token, is_sign, name_of, word_in, sign_in, name_in, any_number_in, number_in}
 use Rattle.sa_parser.specs.Form.{Word, Sign, Name, Number, NumberBelow}
 use Rattle.sa_parser.proofs.Alike.{words_alike, signs_alike}

@@ -2,7 +2,7 @@
 use Rattle.std.proofs.Common.{◌≡◌, ℕ, zero, suc, Bool, true, false, List, [], ◌∷◌, length, Ok, Err, fold, if◌then◌else◌, refl, sym, ◌∙◌, subst, subst₂}
 use Rattle.sa_lexer.specs.declared.token.Token.{Token}
 use Rattle.sa_parser.specs.Form.{Form, Chain}
-use Rattle.sa_parser.specs.Reading.{Reader, Outcome, given, and_then, made, then_read, either, more, chain}
+use Rattle.sa_parser.specs.inner.Reading.{Reader, Outcome, given, and_then, made, then_read, either, more, chain}
 use Rattle.sa_parser.proofs.Heads.{Heads, apart, within}
 use Rattle.sa_parser.proofs.Law.{Shape, Law, Ahead, Deeper}
 use Rattle.sa_parser.proofs.Looks.{Looks}

@@ -3,7 +3,7 @@ use Rattle.std.proofs.Common.{◌≡◌, ℕ, ◌⊎◌, suc, Bool, true, false,
 use Rattle.std.proofs.lemmas.Bool.{cases_Bool}
 use Rattle.sa_lexer.specs.declared.token.Token.{Token}
 use Rattle.sa_parser.specs.Form.{Form, Either}
-use Rattle.sa_parser.specs.Reading.{Reader, Outcome, either}
+use Rattle.sa_parser.specs.inner.Reading.{Reader, Outcome, either}
 use Rattle.sa_parser.proofs.Heads.{Heads, or, starts, apart, within}
 use Rattle.sa_parser.proofs.Law.{Shape, Law, Ahead, Deeper}
 use Rattle.sa_parser.proofs.Looks.{Looks, Looks-other}

@@ -3,7 +3,7 @@ use Rattle.std.proofs.Common.{◌≡◌, suc, Bool, true, false, ◌||◌, List,
 use Rattle.sa_lexer.specs.declared.token.Token.{Token}
 use Rattle.sa_lexer.specs.declared.token.TokenKind.{TokenKind}
 use Rattle.sa_parser.specs.Form.{Form, Either}
-use Rattle.sa_parser.specs.Reading.{Reader, either}
+use Rattle.sa_parser.specs.inner.Reading.{Reader, either}
 use Rattle.sa_parser.proofs.Consequences.{found-alone, faulty-alone}
 use Rattle.sa_parser.proofs.Heads.{Heads, or, starts}
 use Rattle.sa_parser.proofs.Law.{Shape, Opens, Law, Ahead}

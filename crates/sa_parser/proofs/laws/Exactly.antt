@@ -5,7 +5,7 @@ use Rattle.sa_lexer.specs.declared.sign.Sign.{Sign}
 use Rattle.sa_lexer.specs.declared.token.Token.{Token}
 use Rattle.sa_lexer.specs.declared.token.TokenKind.{TokenKind}
 use Rattle.sa_parser.specs.Form.{Form, One, Made, Then, Either, Placed}
-use Rattle.sa_parser.specs.Reading.{Reader}
+use Rattle.sa_parser.specs.inner.Reading.{Reader}
 use Rattle.sa_parser.specs.Token.{word_in, sign_in, name_in}
 use Rattle.sa_parser.proofs.Heads.{Heads, has, starts, within, only_word, only_sign, only_names}
 use Rattle.sa_parser.proofs.Law.{Shape, Law}

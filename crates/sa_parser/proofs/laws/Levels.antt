@@ -1,6 +1,6 @@
 -- What readers keep over any number of levels.
 use Rattle.std.proofs.Common.{ℕ, ◌≤◌, arith}
-use Rattle.sa_parser.specs.Reading.{Reader}
+use Rattle.sa_parser.specs.inner.Reading.{Reader}
 use Rattle.sa_parser.proofs.Law.{Deeper}
 
 pub same-Deeper : {A : Type 0} (levels : ℕ) (read : Reader A) → Deeper levels read read

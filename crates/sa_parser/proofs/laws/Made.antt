@@ -2,7 +2,7 @@
 use Rattle.std.proofs.Common.{◌≡◌, ℕ, suc, List, ◌∷◌, ◌++◌, length, Ok, Err, refl, sym, ap, ◌∙◌, inl, inr}
 use Rattle.sa_lexer.specs.declared.token.Token.{Token}
 use Rattle.sa_parser.specs.Form.{Form, Made}
-use Rattle.sa_parser.specs.Reading.{Reader, given, made}
+use Rattle.sa_parser.specs.inner.Reading.{Reader, given, made}
 use Rattle.sa_parser.proofs.Law.{Shape, Law, Ahead, Deeper}
 use Rattle.sa_parser.proofs.Outcomes.{same_value, same_rest, and_then-found, and_then-faulty}
 

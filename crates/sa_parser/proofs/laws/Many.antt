@@ -3,7 +3,7 @@ use Rattle.std.proofs.Common.{◌≡◌, ℕ, zero, suc, ◌+◌, ◌<◌, ◌�
 use Rattle.std.proofs.lemmas.List.{append_cancel_right}
 use Rattle.sa_lexer.specs.declared.token.Token.{Token}
 use Rattle.sa_parser.specs.Form.{Form, Many}
-use Rattle.sa_parser.specs.Reading.{Reader}
+use Rattle.sa_parser.specs.inner.Reading.{Reader}
 use Rattle.sa_parser.proofs.Heads.{Heads, or, starts, apart, within}
 use Rattle.sa_parser.proofs.Law.{Shape, Opens, Law, Ahead, Deeper}
 use Rattle.sa_parser.proofs.Looks.{Looks, Looks-other}

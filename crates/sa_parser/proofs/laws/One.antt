@@ -3,7 +3,7 @@ use Rattle.std.proofs.Common.{◌≡◌, ℕ, suc, true, false, List, [], ◌∷
 use Rattle.std.proofs.lemmas.List.{append_cancel_right}
 use Rattle.sa_lexer.specs.declared.token.Token.{Token}
 use Rattle.sa_parser.specs.Form.{One}
-use Rattle.sa_parser.specs.Reading.{one, told_or_refused}
+use Rattle.sa_parser.specs.inner.Reading.{one, told_or_refused}
 use Rattle.sa_parser.proofs.Heads.{Heads, none, has, starts}
 use Rattle.sa_parser.proofs.Law.{Shape, Law, Ahead}
 use Rattle.sa_parser.proofs.Outcomes.{same_value, same_rest, same_left}

@@ -4,7 +4,7 @@ use Rattle.std.proofs.lemmas.Bool.{cases_Bool}
 use Rattle.std.proofs.lemmas.List.{append_cancel_right}
 use Rattle.sa_lexer.specs.declared.token.Token.{Token}
 use Rattle.sa_parser.specs.Form.{Form, Perhaps}
-use Rattle.sa_parser.specs.Reading.{Reader, given, made, perhaps}
+use Rattle.sa_parser.specs.inner.Reading.{Reader, given, made, perhaps}
 use Rattle.sa_parser.proofs.Heads.{Heads, or, starts, within}
 use Rattle.sa_parser.proofs.Law.{Shape, Opens, Law, Ahead, Deeper}
 use Rattle.sa_parser.proofs.Looks.{Looks, Looks-other}

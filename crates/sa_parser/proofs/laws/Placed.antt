@@ -3,7 +3,7 @@ use Rattle.std.proofs.Common.{◌≡◌, ℕ, suc, true, false, List, [], ◌∷
 use Rattle.std.proofs.lemmas.Bool.{false≢true}
 use Rattle.sa_lexer.specs.declared.token.Token.{Token}
 use Rattle.sa_parser.specs.Form.{Form, Placed}
-use Rattle.sa_parser.specs.Reading.{Reader, made, placed}
+use Rattle.sa_parser.specs.inner.Reading.{Reader, made, placed}
 use Rattle.sa_parser.specs.Token.{first_place}
 use Rattle.sa_parser.proofs.Heads.{Heads, starts}
 use Rattle.sa_parser.proofs.Law.{Shape, Law, Ahead, Deeper}

@@ -2,7 +2,7 @@
 use Rattle.std.proofs.Common.{◌≡◌, ℕ, suc, List, [], ◌∷◌, ◌++◌, length, Err, refl, ap, arith, length-append}
 use Rattle.sa_lexer.specs.declared.token.Token.{Token}
 use Rattle.sa_parser.specs.Form.{Form}
-use Rattle.sa_parser.specs.Reading.{Reader, refuse}
+use Rattle.sa_parser.specs.inner.Reading.{Reader, refuse}
 use Rattle.sa_parser.proofs.Law.{Shape, Law, Ahead, Deeper}
 use Rattle.sa_parser.proofs.Outcomes.{same_left}
 

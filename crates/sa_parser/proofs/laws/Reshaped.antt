@@ -1,7 +1,7 @@
 -- The same law with larger sets.
 use Rattle.std.proofs.Common.{◌≡◌, true, sym, ◌∙◌}
 use Rattle.sa_parser.specs.Form.{Form}
-use Rattle.sa_parser.specs.Reading.{Reader}
+use Rattle.sa_parser.specs.inner.Reading.{Reader}
 use Rattle.sa_parser.proofs.Heads.{within}
 use Rattle.sa_parser.proofs.Law.{Shape, Law}
 use Rattle.sa_parser.proofs.Opens.{Opens-wider}

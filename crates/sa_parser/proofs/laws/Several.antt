@@ -1,7 +1,7 @@
 -- A reading again and again, as long as a look allows it, a bounded number of times.
 use Rattle.std.proofs.Common.{◌≡◌, ℕ, zero, suc, ◌⊎◌, Bool, true, false, List, [], ◌∷◌, ◌++◌, Ok, Err, refl, sym, ap, ◌∙◌, inl, inr, append_assoc}
 use Rattle.sa_lexer.specs.declared.token.Token.{Token}
-use Rattle.sa_parser.specs.Reading.{Reader, given, made, then_read, either}
+use Rattle.sa_parser.specs.inner.Reading.{Reader, given, made, then_read, either}
 use Rattle.sa_parser.proofs.Outcomes.{same_value, same_rest}
 use Rattle.sa_parser.proofs.laws.Either.{either-first, either-second, either-cases}
 use Rattle.sa_parser.proofs.laws.Made.{made-computes, made-fails, made-found, made-faulty}

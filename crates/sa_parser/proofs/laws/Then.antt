@@ -3,7 +3,7 @@ use Rattle.std.proofs.Common.{◌≡◌, ℕ, ◌+◌, ◌<◌, ◌≤◌, ◌�
 use Rattle.std.proofs.lemmas.List.{append_cancel_right}
 use Rattle.sa_lexer.specs.declared.token.Token.{Token}
 use Rattle.sa_parser.specs.Form.{Form, Then}
-use Rattle.sa_parser.specs.Reading.{Reader, given, and_then, then_read}
+use Rattle.sa_parser.specs.inner.Reading.{Reader, given, and_then, then_read}
 use Rattle.sa_parser.proofs.Heads.{or, starts, apart}
 use Rattle.sa_parser.proofs.Law.{Shape, Opens, Law, Ahead, Deeper}
 use Rattle.sa_parser.proofs.Opens.{Opens-append, quiet-append, quiet-parts}

@@ -5,7 +5,7 @@ use Rattle.sa_lexer.specs.declared.token.Token.{Token}
 use Rattle.sa_lexer.specs.declared.token.TokenKind.{TokenKind}
 use Rattle.sa_lexer.specs.declared.token.TokenKind.TheVariants as kinds
 use Rattle.sa_parser.specs.Form.{One}
-use Rattle.sa_parser.specs.Reading.{one, word, sign, name}
+use Rattle.sa_parser.specs.inner.Reading.{one, word, sign, name}
 use Rattle.sa_parser.specs.Token.{is_word, is_sign, name_of, number_of, word_in, sign_in, name_in, number_in}
 use Rattle.sa_parser.proofs.Alike.{words_alike, signs_alike}
 use Rattle.sa_parser.proofs.Heads.{is_number, only_word, only_sign, only_names, only_numbers, only_word-has, only_sign-has, only_names-has, only_numbers-has}

@@ -6,7 +6,7 @@ use Rattle.sa_lexer.specs.declared.sign.Sign as sign_of
 use Rattle.sa_lexer.specs.declared.sign.Sign.TheVariants as signs
 use Rattle.sa_lexer.specs.declared.token.Token.{Token}
 use Rattle.sa_parser.specs.Form.{Form, One, Made, Then, Either, Perhaps, Chain, Placed, Word, Sign, Name, NumberBelow, Brackets, Commas, After}
-use Rattle.sa_parser.specs.Reading.{Reader, one, made, then_read, either, perhaps, chain, placed, word, sign, name, number_below, brackets, commas, after}
+use Rattle.sa_parser.specs.inner.Reading.{Reader, one, made, then_read, either, perhaps, chain, placed, word, sign, name, number_below, brackets, commas, after}
 use Rattle.sa_parser.specs.Token.{word_in, sign_in, name_in, number_in}
 use Rattle.sa_parser.proofs.Heads.{Heads, or, none, only_word, only_sign, only_names, only_numbers, apart, within}
 use Rattle.sa_parser.proofs.Law.{Shape, Law, Ahead, Deeper}

@@ -3,7 +3,7 @@ use Rattle.std.proofs.Common.{◌≡◌, ℕ, suc, Bool, true, false, List, ◌+
 use Rattle.sa_lexer.specs.declared.sign.Sign.TheVariants as signs
 use Rattle.sa_lexer.specs.declared.token.Token.{Token}
 use Rattle.sa_parser.specs.Form.{Form, Made, Then, Either, Commas}
-use Rattle.sa_parser.specs.Reading.{Reader, made, then_read, either, commas}
+use Rattle.sa_parser.specs.inner.Reading.{Reader, made, then_read, either, commas}
 use Rattle.sa_parser.proofs.Heads.{Heads, only_sign, apart, within}
 use Rattle.sa_parser.proofs.Law.{Shape, Law, Ahead, Deeper}
 use Rattle.sa_parser.proofs.Looks.{Looks, sees_sign-Looks}

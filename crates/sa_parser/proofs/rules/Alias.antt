@@ -1,8 +1,8 @@
 -- An alias.
 use Rattle.std.proofs.Common.{ℕ, true, false, codes, [], ◌∷◌, refl}
-use Rattle.sa_print.specs.Reserved.{is_reserved}
+use Rattle.sa_lexer.specs.Reserved.{is_reserved}
 use Rattle.sa_parser.specs.SelectGrammar.{Alias}
-use Rattle.sa_parser.specs.SelectReading.{alias}
+use Rattle.sa_parser.specs.inner.SelectReading.{alias}
 use Rattle.sa_parser.proofs.Heads.{Heads, apart, within}
 use Rattle.sa_parser.proofs.Law.{Shape}
 use Rattle.sa_parser.proofs.Looks.{or-Looks, sees_word-Looks, sees_name-Looks}

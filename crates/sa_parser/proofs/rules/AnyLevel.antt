@@ -3,7 +3,7 @@ use Rattle.std.proofs.Common.{◌≡◌, ◌≤◌, ◌+◌, ℕ, zero, suc, Lis
 use Rattle.sa_lexer.specs.declared.token.Token.{Token}
 use Rattle.sa_parser.specs.Fault.{Begins, FaultyAt}
 use Rattle.sa_parser.specs.Form.{Form}
-use Rattle.sa_parser.specs.Reading.{Reader}
+use Rattle.sa_parser.specs.inner.Reading.{Reader}
 use Rattle.sa_parser.proofs.Consequences.{one_value, whole-is, faulty-not, found-alone, faulty-alone}
 use Rattle.sa_parser.proofs.Law.{Shape, Law, Ahead, Deeper}
 

@@ -9,10 +9,10 @@ use Rattle.sa_lexer.specs.declared.token.TokenKind.TheVariants as kinds
 use Rattle.sa_ast.specs.declared.expression.AggregateCall.TheVariants.{Sum, Min, Max}
 use Rattle.sa_ast.specs.declared.expression.ExprNode.TheVariants as node
 use Rattle.sa_parser.specs.Form.{One}
-use Rattle.sa_parser.specs.Reading.{one}
+use Rattle.sa_parser.specs.inner.Reading.{one}
 use Rattle.sa_parser.specs.Token.{is_word, is_sign}
 use Rattle.sa_parser.specs.Tree.{tree, atom_of, atom_in, aggregate_of, aggregate_in, additive_in, comparison_of, comparison_in}
-use Rattle.sa_parser.specs.ExprReading.{sees_comparison, sees_additive}
+use Rattle.sa_parser.specs.inner.ExprReading.{sees_comparison, sees_additive}
 use Rattle.sa_parser.proofs.Heads.{Heads, has, starts}
 use Rattle.sa_parser.proofs.Law.{Law}
 use Rattle.sa_parser.proofs.Looks.{Looks, or-Looks, sees_sign-Looks}

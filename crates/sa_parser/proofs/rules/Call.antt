@@ -9,11 +9,11 @@ use Rattle.sa_ast.specs.declared.expression.ExprTree.{ExprTree}
 use Rattle.sa_parser.specs.declared.rule.Rule.{Rule}
 use Rattle.sa_parser.specs.declared.rule.Rule.TheVariants as rule
 use Rattle.sa_parser.specs.Form.{Form, One, Made, Either, Sign, Brackets}
-use Rattle.sa_parser.specs.Reading.{Reader, made, either, sign, brackets, sees_sign}
+use Rattle.sa_parser.specs.inner.Reading.{Reader, made, either, sign, brackets, sees_sign}
 use Rattle.sa_parser.specs.Token.{is_word}
 use Rattle.sa_parser.specs.Tree.{aggregate_of, aggregate_in}
 use Rattle.sa_parser.specs.ExprGrammar.{Call}
-use Rattle.sa_parser.specs.ExprReading.{call, sees_call}
+use Rattle.sa_parser.specs.inner.ExprReading.{call, sees_call}
 use Rattle.sa_parser.proofs.Heads.{Heads, none, or, only_word, only_sign, apart, within, has, starts, only_word-has, only_sign-has, or-has}
 use Rattle.sa_parser.proofs.Law.{Shape}
 use Rattle.sa_parser.proofs.Looks.{sees_word-Looks, sees_sign-Looks}

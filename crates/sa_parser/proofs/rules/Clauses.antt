@@ -3,9 +3,9 @@ use Rattle.std.proofs.Common.{ℕ, true, false, codes, List, [], ◌∷◌, refl
 use Rattle.sa_lexer.specs.declared.sign.Sign.TheVariants as signs
 use Rattle.sa_ast.specs.declared.expression.ExprTree.{ExprTree}
 use Rattle.sa_parser.specs.Form.{Form}
-use Rattle.sa_parser.specs.Reading.{Reader}
+use Rattle.sa_parser.specs.inner.Reading.{Reader}
 use Rattle.sa_parser.specs.SelectGrammar.{Distinct, Where, Group, Having, Direction, OrderItem, Order}
-use Rattle.sa_parser.specs.SelectReading.{distinct, where_part, group, having, direction, order_item_read, order}
+use Rattle.sa_parser.specs.inner.SelectReading.{distinct, where_part, group, having, direction, order_item_read, order}
 use Rattle.sa_parser.proofs.Heads.{only_word, apart, within}
 use Rattle.sa_parser.proofs.Law.{Shape}
 use Rattle.sa_parser.proofs.Looks.{or-Looks, sees_word-Looks}

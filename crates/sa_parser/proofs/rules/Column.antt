@@ -2,7 +2,7 @@
 use Rattle.std.proofs.Common.{false, ℕ, [], ◌∷◌, refl}
 use Rattle.sa_lexer.specs.declared.sign.Sign.TheVariants as signs
 use Rattle.sa_parser.specs.ExprGrammar.{Column}
-use Rattle.sa_parser.specs.ExprReading.{column}
+use Rattle.sa_parser.specs.inner.ExprReading.{column}
 use Rattle.sa_parser.proofs.Heads.{only_names, only_sign, apart, within, has}
 use Rattle.sa_parser.proofs.Law.{Shape}
 use Rattle.sa_parser.proofs.Looks.{sees_sign-Looks}

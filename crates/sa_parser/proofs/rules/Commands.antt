@@ -2,7 +2,7 @@
 use Rattle.std.proofs.Common.{ℕ, true, codes, refl}
 use Rattle.sa_lexer.specs.declared.sign.Sign.TheVariants as signs
 use Rattle.sa_parser.specs.StatementGrammar.{Format, Show, Kill, Set, Wait}
-use Rattle.sa_parser.specs.StatementReading.{format, show, ask_kind, kill, kill_kind, sees_kill_kind, set, set_trace, set_limit, wait}
+use Rattle.sa_parser.specs.inner.StatementReading.{format, show, ask_kind, kill, kill_kind, sees_kill_kind, set, set_trace, set_limit, wait}
 use Rattle.sa_parser.proofs.Heads.{or, only_word, apart, within}
 use Rattle.sa_parser.proofs.Law.{Shape}
 use Rattle.sa_parser.proofs.Looks.{Looks, or-Looks, sees_word-Looks}

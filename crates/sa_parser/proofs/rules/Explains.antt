@@ -2,11 +2,11 @@
 use Rattle.std.proofs.Common.{ℕ, false, codes, List, refl}
 use Rattle.sa_ast.specs.declared.expression.ExprTree.{ExprTree}
 use Rattle.sa_parser.specs.Form.{Form}
-use Rattle.sa_parser.specs.Reading.{Reader}
+use Rattle.sa_parser.specs.inner.Reading.{Reader}
 use Rattle.sa_parser.specs.SelectGrammar.{Select}
-use Rattle.sa_parser.specs.SelectReading.{select}
+use Rattle.sa_parser.specs.inner.SelectReading.{select}
 use Rattle.sa_parser.specs.StatementGrammar.{Explain, Analyze}
-use Rattle.sa_parser.specs.StatementReading.{explain, for_connection, analyze}
+use Rattle.sa_parser.specs.inner.StatementReading.{explain, for_connection, analyze}
 use Rattle.sa_parser.proofs.Heads.{Heads, only_word, apart, within}
 use Rattle.sa_parser.proofs.Law.{Shape}
 use Rattle.sa_parser.proofs.Looks.{sees_word-Looks}

@@ -3,7 +3,7 @@ use Rattle.std.proofs.Common.{◌≡◌, ℕ, true, false, List, [], ◌∷◌, 
 use Rattle.std.proofs.lemmas.Bool.{and_from}
 use Rattle.sa_lexer.specs.declared.token.Token.{Token}
 use Rattle.sa_parser.specs.Form.{Form, One}
-use Rattle.sa_parser.specs.Reading.{Reader, one, then_read}
+use Rattle.sa_parser.specs.inner.Reading.{Reader, one, then_read}
 use Rattle.sa_parser.proofs.Heads.{Heads, has}
 use Rattle.sa_parser.proofs.Law.{Shape, Law}
 use Rattle.sa_parser.proofs.Opens.{Opens-full}

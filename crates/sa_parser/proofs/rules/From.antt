@@ -2,11 +2,11 @@
 use Rattle.std.proofs.Common.{ℕ, true, false, codes, List, [], ◌∷◌, refl}
 use Rattle.sa_lexer.specs.declared.sign.Sign.TheVariants as signs
 use Rattle.sa_ast.specs.declared.expression.ExprTree.{ExprTree}
-use Rattle.sa_print.specs.Reserved.{is_reserved}
+use Rattle.sa_lexer.specs.Reserved.{is_reserved}
 use Rattle.sa_parser.specs.Form.{Form}
-use Rattle.sa_parser.specs.Reading.{Reader}
+use Rattle.sa_parser.specs.inner.Reading.{Reader}
 use Rattle.sa_parser.specs.SelectGrammar.{Table, Join, Joined, Tables}
-use Rattle.sa_parser.specs.SelectReading.{table, join, joined, tables, sees_join}
+use Rattle.sa_parser.specs.inner.SelectReading.{table, join, joined, tables, sees_join}
 use Rattle.sa_parser.proofs.Heads.{Heads, only_names, apart, within}
 use Rattle.sa_parser.proofs.Law.{Shape}
 use Rattle.sa_parser.proofs.Looks.{Looks, or-Looks, sees_word-Looks, sees_sign-Looks}

@@ -8,13 +8,13 @@ use Rattle.sa_lexer.specs.declared.token.TokenKind.{TokenKind}
 use Rattle.sa_lexer.specs.declared.token.TokenKind.TheVariants as kinds
 use Rattle.sa_ast.specs.declared.expression.ExprTree.{ExprTree}
 use Rattle.sa_ast.specs.declared.select.ItemTree.{ItemTree}
-use Rattle.sa_print.specs.Reserved.{is_reserved}
+use Rattle.sa_lexer.specs.Reserved.{is_reserved}
 use Rattle.sa_parser.specs.Token.{is_word, is_sign, name_of}
 use Rattle.sa_parser.specs.SelectTree.{table_star_item, value_item}
 use Rattle.sa_parser.specs.Form.{Form, Made, Then, Either, Placed, Name, Sign}
-use Rattle.sa_parser.specs.Reading.{Reader, made, then_read, either, placed, name, sign}
+use Rattle.sa_parser.specs.inner.Reading.{Reader, made, then_read, either, placed, name, sign}
 use Rattle.sa_parser.specs.SelectGrammar.{Alias, Item}
-use Rattle.sa_parser.specs.SelectReading.{alias, item, sees_table_star}
+use Rattle.sa_parser.specs.inner.SelectReading.{alias, item, sees_table_star}
 use Rattle.sa_parser.proofs.Heads.{Heads, only_names, only_sign, apart, within, has, only_names-has, only_sign-has}
 use Rattle.sa_parser.proofs.Law.{Shape}
 use Rattle.sa_parser.proofs.Looks.{sees_sign-Looks}

@@ -2,7 +2,7 @@
 use Rattle.std.proofs.Common.{ℕ, ◌^◌, true, false, codes, [], ◌∷◌, refl}
 use Rattle.sa_lexer.specs.declared.sign.Sign.TheVariants as signs
 use Rattle.sa_parser.specs.SelectGrammar.{Limit}
-use Rattle.sa_parser.specs.SelectReading.{limit, second_limit}
+use Rattle.sa_parser.specs.inner.SelectReading.{limit, second_limit}
 use Rattle.sa_parser.proofs.Heads.{only_word, apart, within}
 use Rattle.sa_parser.proofs.Law.{Shape}
 use Rattle.sa_parser.proofs.Looks.{or-Looks, sees_word-Looks, sees_sign-Looks}

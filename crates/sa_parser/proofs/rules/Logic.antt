@@ -2,13 +2,13 @@
 use Rattle.std.proofs.Common.{ℕ, suc, codes, refl}
 use Rattle.sa_lexer.specs.declared.sign.Sign.TheVariants as signs
 use Rattle.sa_ast.specs.declared.expression.ExprTree.{ExprTree}
-use Rattle.sa_print.specs.Reserved.{is_reserved}
+use Rattle.sa_lexer.specs.Reserved.{is_reserved}
 use Rattle.sa_parser.specs.declared.rule.Rule.{Rule}
 use Rattle.sa_parser.specs.declared.rule.Rule.TheVariants as rule
 use Rattle.sa_parser.specs.Form.{Form}
-use Rattle.sa_parser.specs.Reading.{Reader}
+use Rattle.sa_parser.specs.inner.Reading.{Reader}
 use Rattle.sa_parser.specs.ExprGrammar.{Predicate, Negation, Conjunction, Disjunction}
-use Rattle.sa_parser.specs.ExprReading.{predicate, negation, conjunction, disjunction, sees_predicate, sees_and}
+use Rattle.sa_parser.specs.inner.ExprReading.{predicate, negation, conjunction, disjunction, sees_predicate, sees_and}
 use Rattle.sa_parser.proofs.Heads.{Heads, or, only_word, only_sign, apart, within}
 use Rattle.sa_parser.proofs.Looks.{Looks, or-Looks, sees_word-Looks, sees_sign-Looks}
 use Rattle.sa_parser.proofs.rules.Agrees.{Agrees, word-Agrees, sign-Agrees, made-Agrees, reshaped-Agrees, perhaps-Agrees, then-Agrees, then-Agrees_inside, either-Agrees, chain-Agrees}

@@ -6,7 +6,7 @@ use Rattle.sa_lexer.specs.declared.token.Token.{Token}
 use Rattle.sa_lexer.specs.declared.token.TokenKind.{TokenKind}
 use Rattle.sa_lexer.specs.declared.token.TokenKind.TheVariants as kinds
 use Rattle.sa_ast.specs.declared.name.NameTree.{NameTree}
-use Rattle.sa_print.specs.Reserved.{is_reserved, reserved_words}
+use Rattle.sa_lexer.specs.Reserved.{is_reserved, reserved_words}
 use Rattle.sa_parser.specs.Token.{is_word, is_sign, name_of, name_in}
 use Rattle.sa_parser.proofs.Heads.{Heads, has, apart, only_names, apart-has, only_names-has}
 use Rattle.sa_parser.proofs.rules.Examples.{there}

@@ -5,7 +5,7 @@ use Rattle.sa_lexer.specs.declared.token.TokenKind.TheVariants as kinds
 use Rattle.sa_parser.specs.declared.rule.Rule.{Rule}
 use Rattle.sa_parser.specs.declared.rule.Rule.TheVariants as rule
 use Rattle.sa_parser.specs.ExprGrammar.{nested}
-use Rattle.sa_parser.specs.ExprReading.{nested_read}
+use Rattle.sa_parser.specs.inner.ExprReading.{nested_read}
 use Rattle.sa_parser.specs.Token.{name_of}
 use Rattle.sa_parser.proofs.Heads.{has}
 use Rattle.sa_parser.proofs.Law.{Law, Ahead, Deeper}

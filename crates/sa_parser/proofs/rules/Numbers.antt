@@ -3,7 +3,7 @@ use Rattle.std.proofs.Common.{◌≡◌, ℕ, ◌+◌, ◌^◌, Bool, true, code
 use Rattle.sa_lexer.specs.declared.token.TokenKind.{TokenKind}
 use Rattle.sa_lexer.specs.declared.token.TokenKind.TheVariants as kinds
 use Rattle.sa_parser.specs.Form.{One, Number}
-use Rattle.sa_parser.specs.Reading.{one, number}
+use Rattle.sa_parser.specs.inner.Reading.{one, number}
 use Rattle.sa_parser.specs.Token.{any_number_of, any_number_in, number_of}
 use Rattle.sa_parser.specs.StatementGrammar.{positive, steps_in, switch_of, switch_in}
 use Rattle.sa_parser.proofs.Heads.{is_number, is_text, only_numbers, only_texts, only_numbers-has, only_texts-has}

@@ -3,7 +3,7 @@ use Rattle.std.proofs.Common.{◌≡◌, ℕ, suc, List, [], ◌∷◌, ◌++◌
 use Rattle.sa_lexer.specs.declared.token.Token.{Token}
 use Rattle.sa_parser.specs.Fault.{Begins, FaultyAt}
 use Rattle.sa_parser.specs.Form.{Form}
-use Rattle.sa_parser.specs.Reading.{Reader}
+use Rattle.sa_parser.specs.inner.Reading.{Reader}
 use Rattle.sa_parser.proofs.Law.{Shape, Law, Ahead}
 use Rattle.sa_parser.proofs.laws.Levels.{same-Deeper}
 use Rattle.sa_parser.proofs.rules.AnyLevel.{AtSome, Levelled, some-leftover, some-faulty}

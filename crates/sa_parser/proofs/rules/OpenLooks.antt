@@ -2,7 +2,7 @@
 use Rattle.std.proofs.Common.{◌≡◌, suc, Bool, true, List, [], ◌∷◌, ◌++◌, length, Ok, Err, sym, ◌∙◌, inl, inr}
 use Rattle.sa_lexer.specs.declared.token.Token.{Token}
 use Rattle.sa_lexer.specs.declared.token.TokenKind.{TokenKind}
-use Rattle.sa_parser.specs.Reading.{Reader, either}
+use Rattle.sa_parser.specs.inner.Reading.{Reader, either}
 use Rattle.sa_parser.proofs.Law.{Ahead}
 use Rattle.sa_parser.proofs.Matches.{matches_part, matches-known}
 use Rattle.sa_parser.proofs.LooksAhead.{LooksAhead}

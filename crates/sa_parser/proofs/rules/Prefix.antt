@@ -4,7 +4,7 @@ use Rattle.std.proofs.lemmas.Bool.{false≢true, false_from_ne_true, both_ways, 
 use Rattle.sa_lexer.specs.declared.token.Token.{Token}
 use Rattle.sa_lexer.specs.declared.token.TokenKind.{TokenKind}
 use Rattle.sa_parser.specs.Form.{Form, Made, Then, Many, Chain}
-use Rattle.sa_parser.specs.Reading.{Reader}
+use Rattle.sa_parser.specs.inner.Reading.{Reader}
 use Rattle.sa_parser.proofs.Heads.{Heads, none, has, starts, apart, within}
 use Rattle.sa_parser.proofs.Law.{Shape, Law}
 use Rattle.sa_parser.proofs.Matches.{matches, matches_all}

@@ -5,14 +5,14 @@ use Rattle.sa_lexer.specs.declared.sign.Sign.TheVariants as signs
 use Rattle.sa_lexer.specs.declared.token.Token.{Token}
 use Rattle.sa_lexer.specs.declared.token.TokenKind.{TokenKind}
 use Rattle.sa_ast.specs.declared.expression.ExprTree.{ExprTree}
-use Rattle.sa_print.specs.Reserved.{is_reserved}
+use Rattle.sa_lexer.specs.Reserved.{is_reserved}
 use Rattle.sa_parser.specs.declared.rule.Rule.{Rule}
 use Rattle.sa_parser.specs.declared.rule.Rule.TheVariants as rule
 use Rattle.sa_parser.specs.Form.{Form, One, Either}
-use Rattle.sa_parser.specs.Reading.{Reader, one, either, sees_name}
+use Rattle.sa_parser.specs.inner.Reading.{Reader, one, either, sees_name}
 use Rattle.sa_parser.specs.Tree.{atom_in}
 use Rattle.sa_parser.specs.ExprGrammar.{Column, Call, Primary}
-use Rattle.sa_parser.specs.ExprReading.{column, call, primary, sees_call}
+use Rattle.sa_parser.specs.inner.ExprReading.{column, call, primary, sees_call}
 use Rattle.sa_parser.proofs.Consequences.{found-alone, faulty-alone}
 use Rattle.sa_parser.proofs.Heads.{or, only_names, only_sign, apart, within, has}
 use Rattle.sa_parser.proofs.Law.{Shape}

@@ -2,9 +2,9 @@
 use Rattle.std.proofs.Common.{ℕ, suc, ◌≤◌}
 use Rattle.sa_parser.specs.declared.rule.Rule.TheVariants as rule
 use Rattle.sa_parser.specs.ExprGrammar.{nested}
-use Rattle.sa_parser.specs.ExprReading.{nested_read}
+use Rattle.sa_parser.specs.inner.ExprReading.{nested_read}
 use Rattle.sa_parser.specs.SelectGrammar.{Select}
-use Rattle.sa_parser.specs.SelectReading.{select}
+use Rattle.sa_parser.specs.inner.SelectReading.{select}
 use Rattle.sa_parser.proofs.LooksAhead.{Suffices}
 use Rattle.sa_parser.proofs.rules.Agrees.{Agrees}
 use Rattle.sa_parser.proofs.rules.AgreesIf.{AgreesIf, sure-Agrees}

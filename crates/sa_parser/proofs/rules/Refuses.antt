@@ -4,7 +4,7 @@ use Rattle.std.proofs.lemmas.Bool.{false≢true, both_ways, cases_Bool, false_fr
 use Rattle.sa_lexer.specs.declared.token.Token.{Token}
 use Rattle.sa_lexer.specs.declared.token.TokenKind.{TokenKind}
 use Rattle.sa_parser.specs.Form.{Form, Then}
-use Rattle.sa_parser.specs.Reading.{Reader, Outcome, made, then_read, either, perhaps, chain}
+use Rattle.sa_parser.specs.inner.Reading.{Reader, Outcome, made, then_read, either, perhaps, chain}
 use Rattle.sa_parser.proofs.Heads.{Heads, has, starts, apart, within}
 use Rattle.sa_parser.proofs.Law.{Shape, Law}
 use Rattle.sa_parser.proofs.Looks.{Looks}

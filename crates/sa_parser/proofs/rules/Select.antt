@@ -2,11 +2,11 @@
 use Rattle.std.proofs.Common.{ℕ, suc, true, false, codes, List, [], ◌∷◌, ◌++◌, refl}
 use Rattle.sa_lexer.specs.declared.sign.Sign.TheVariants as signs
 use Rattle.sa_ast.specs.declared.expression.ExprTree.{ExprTree}
-use Rattle.sa_print.specs.Reserved.{is_reserved}
+use Rattle.sa_lexer.specs.Reserved.{is_reserved}
 use Rattle.sa_parser.specs.Form.{Form}
-use Rattle.sa_parser.specs.Reading.{Reader}
+use Rattle.sa_parser.specs.inner.Reading.{Reader}
 use Rattle.sa_parser.specs.SelectGrammar.{Select}
-use Rattle.sa_parser.specs.SelectReading.{select}
+use Rattle.sa_parser.specs.inner.SelectReading.{select}
 use Rattle.sa_parser.proofs.Heads.{only_word, apart, within}
 use Rattle.sa_parser.proofs.Law.{Shape}
 use Rattle.sa_parser.proofs.LooksAhead.{Suffices}

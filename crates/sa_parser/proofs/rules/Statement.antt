@@ -5,12 +5,12 @@ use Rattle.sa_ast.specs.declared.expression.ExprTree.{ExprTree}
 use Rattle.sa_ast.specs.declared.statement.Statement.{Statement}
 use Rattle.sa_ast.specs.declared.statement.Statement.TheVariants as said
 use Rattle.sa_parser.specs.Form.{Form, Made, Either}
-use Rattle.sa_parser.specs.Reading.{Reader, made, either, sees_word}
+use Rattle.sa_parser.specs.inner.Reading.{Reader, made, either, sees_word}
 use Rattle.sa_parser.specs.Token.{is_word, is_sign}
 use Rattle.sa_parser.specs.SelectGrammar.{Select}
-use Rattle.sa_parser.specs.SelectReading.{select}
+use Rattle.sa_parser.specs.inner.SelectReading.{select}
 use Rattle.sa_parser.specs.StatementGrammar.{TraceRows, Explain, Analyze, Show, Kill, Set, Wait}
-use Rattle.sa_parser.specs.StatementReading.{sees_trace, trace_rows, explain, analyze, show, kill, set, wait}
+use Rattle.sa_parser.specs.inner.StatementReading.{sees_trace, trace_rows, explain, analyze, show, kill, set, wait}
 use Rattle.sa_parser.proofs.Heads.{Heads, only_word, only_sign, apart, within, has}
 use Rattle.sa_parser.proofs.Law.{Shape}
 use Rattle.sa_parser.proofs.Looks.{sees_word-Looks}

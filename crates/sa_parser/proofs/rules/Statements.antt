@@ -2,9 +2,9 @@
 use Rattle.std.proofs.Common.{◌≤◌, ℕ, suc, arith}
 use Rattle.sa_parser.specs.declared.rule.Rule.TheVariants as rule
 use Rattle.sa_parser.specs.ExprGrammar.{nested}
-use Rattle.sa_parser.specs.ExprReading.{nested_read}
+use Rattle.sa_parser.specs.inner.ExprReading.{nested_read}
 use Rattle.sa_parser.specs.StatementGrammar.{statement}
-use Rattle.sa_parser.specs.StatementReading.{statement_read}
+use Rattle.sa_parser.specs.inner.StatementReading.{statement_read}
 use Rattle.sa_parser.proofs.Law.{Shape, Law, Ahead, Deeper}
 use Rattle.sa_parser.proofs.LooksAhead.{Suffices}
 use Rattle.sa_parser.proofs.rules.AgreesIf.{AgreesIf}

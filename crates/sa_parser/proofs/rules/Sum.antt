@@ -5,9 +5,9 @@ use Rattle.sa_ast.specs.declared.expression.ExprTree.{ExprTree}
 use Rattle.sa_parser.specs.declared.rule.Rule.{Rule}
 use Rattle.sa_parser.specs.declared.rule.Rule.TheVariants as rule
 use Rattle.sa_parser.specs.Form.{Form}
-use Rattle.sa_parser.specs.Reading.{Reader}
+use Rattle.sa_parser.specs.inner.Reading.{Reader}
 use Rattle.sa_parser.specs.ExprGrammar.{Factor, Term, Sum}
-use Rattle.sa_parser.specs.ExprReading.{factor, term, sum}
+use Rattle.sa_parser.specs.inner.ExprReading.{factor, term, sum}
 use Rattle.sa_parser.specs.Tree.{additive_in}
 use Rattle.sa_parser.proofs.Heads.{apart, within}
 use Rattle.sa_parser.proofs.Looks.{sees_sign-Looks}

@@ -5,11 +5,11 @@ use Rattle.sa_lexer.specs.declared.sign.Sign.TheVariants as signs
 use Rattle.sa_lexer.specs.declared.token.Token.{Token}
 use Rattle.sa_lexer.specs.declared.token.TokenKind.{TokenKind}
 use Rattle.sa_ast.specs.declared.expression.ExprTree.{ExprTree}
-use Rattle.sa_print.specs.Reserved.{is_reserved}
+use Rattle.sa_lexer.specs.Reserved.{is_reserved}
 use Rattle.sa_parser.specs.declared.rule.Rule.{Rule}
 use Rattle.sa_parser.specs.declared.rule.Rule.TheVariants as rule
-use Rattle.sa_parser.specs.Reading.{Reader}
-use Rattle.sa_parser.specs.ExprReading.{column, primary, factor, term, sum, predicate, negation, conjunction, disjunction, nested_read, sees_call}
+use Rattle.sa_parser.specs.inner.Reading.{Reader}
+use Rattle.sa_parser.specs.inner.ExprReading.{column, primary, factor, term, sum, predicate, negation, conjunction, disjunction, nested_read, sees_call}
 use Rattle.sa_parser.proofs.Heads.{has, only_names, only_sign, apart, within, apart-has}
 use Rattle.sa_parser.proofs.Looks.{sees_sign-Looks}
 use Rattle.sa_parser.proofs.Matches.{matches}

@@ -3,10 +3,10 @@ use Rattle.std.proofs.Common.{ℕ, suc, false, codes, [], refl}
 use Rattle.sa_ast.specs.declared.expression.ExprTree.{ExprTree}
 use Rattle.sa_parser.specs.declared.rule.Rule.{Rule}
 use Rattle.sa_parser.specs.Form.{Form}
-use Rattle.sa_parser.specs.Reading.{Reader}
+use Rattle.sa_parser.specs.inner.Reading.{Reader}
 use Rattle.sa_parser.specs.Tree.{comparison_in}
 use Rattle.sa_parser.specs.ExprGrammar.{CompareTail, NullTail, BetweenTail, AmongTail, PredicateTail}
-use Rattle.sa_parser.specs.ExprReading.{compare_part, null_part, between_part, among_part, range_part, predicate_part}
+use Rattle.sa_parser.specs.inner.ExprReading.{compare_part, null_part, between_part, among_part, range_part, predicate_part}
 use Rattle.sa_parser.proofs.Heads.{Heads, only_word, apart, within}
 use Rattle.sa_parser.proofs.Law.{Shape}
 use Rattle.sa_parser.proofs.Looks.{sees_word-Looks}

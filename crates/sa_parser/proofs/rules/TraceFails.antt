@@ -3,9 +3,9 @@ use Rattle.std.proofs.Common.{ℕ, Bool, codes, List, [], ◌∷◌, refl}
 use Rattle.sa_lexer.specs.declared.sign.Sign.TheVariants as signs
 use Rattle.sa_lexer.specs.declared.token.TokenKind.{TokenKind}
 use Rattle.sa_ast.specs.declared.expression.ExprTree.{ExprTree}
-use Rattle.sa_print.specs.Reserved.{is_reserved}
+use Rattle.sa_lexer.specs.Reserved.{is_reserved}
 use Rattle.sa_parser.specs.Form.{Form}
-use Rattle.sa_parser.specs.Reading.{Reader}
+use Rattle.sa_parser.specs.inner.Reading.{Reader}
 use Rattle.sa_parser.specs.SelectGrammar.{Distinct, Item, Table, Joined, Tables, Select}
 use Rattle.sa_parser.proofs.Heads.{Heads, only_word, only_sign, apart, within, has}
 use Rattle.sa_parser.proofs.Looks.{sees_word-Looks}

@@ -7,7 +7,7 @@ use Rattle.sa_lexer.specs.declared.token.TokenKind.{TokenKind}
 use Rattle.sa_lexer.specs.declared.token.TokenKind.TheVariants as kinds
 use Rattle.sa_parser.specs.Token.{is_word, is_sign}
 use Rattle.sa_parser.specs.StatementGrammar.{TraceRows}
-use Rattle.sa_parser.specs.StatementReading.{sees_trace, trace_rows}
+use Rattle.sa_parser.specs.inner.StatementReading.{sees_trace, trace_rows}
 use Rattle.sa_parser.proofs.Heads.{only_word, only_sign, apart, within, has, only_word-has, only_sign-has}
 use Rattle.sa_parser.proofs.LooksAhead.{LooksAhead, Passes, Begins}
 use Rattle.sa_parser.proofs.laws.Begins.{word-Suffices, sign-Suffices, made-Suffices, then-Suffices, Suffices-Begins}

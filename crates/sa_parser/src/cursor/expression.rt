@@ -2,9 +2,9 @@
 
 ghost use Rattle.std.specs.Prelude.{◌≡◌, IfOk};
 ghost use Rattle.sa_parser.specs.Tree as spec;
-ghost use Rattle.sa_parser.specs.Reading as reading;
-ghost use Rattle.sa_parser.specs.ExprReading as expressions;
-ghost use Rattle.sa_parser.specs.Reads.{Reads};
+ghost use Rattle.sa_parser.specs.inner.Reading as reading;
+ghost use Rattle.sa_parser.specs.inner.ExprReading as expressions;
+ghost use Rattle.sa_parser.specs.inner.Reads.{Reads};
 
 use crate::cursor::{Cursor, is_sign, is_word};
 use crate::fault::ReadFault;
@@ -18,7 +18,7 @@ use std::alloc::Global;
 impl<'a> Cursor<'a> {
     /// The next token, which has to be an expression by itself: a number, a text, NULL, TRUE or
     /// FALSE.
-    #[tactic(auto, unfolding(crate::specs::Reading::one))]
+    #[tactic(auto, unfolding(crate::specs::inner::Reading::one))]
     pub(crate) fn atom(&mut self, alloc: Global) -> Result<Boxed<ExprTree>, ReadFault>
         ensures { Reads (reading.one spec.atom_in self.old) result self.new }
     {
@@ -33,7 +33,7 @@ impl<'a> Cursor<'a> {
     }
 
     /// The place of the next token and the aggregate that it names, one with an argument.
-    #[tactic(auto, unfolding(crate::specs::Reading::one))]
+    #[tactic(auto, unfolding(crate::specs::inner::Reading::one))]
     pub(crate) fn aggregate(&mut self) -> Result<(usize, AggregateCall), ReadFault>
         ensures { Reads (reading.one spec.aggregate_in self.old) result self.new }
     {
@@ -48,7 +48,7 @@ impl<'a> Cursor<'a> {
     }
 
     /// Whether the name of an aggregate comes next, and a bracket behind it.
-    #[tactic(auto, unfolding(crate::specs::ExprReading::sees_call))]
+    #[tactic(auto, unfolding(crate::specs::inner::ExprReading::sees_call))]
     pub(crate) fn sees_call(&self) -> bool
         ensures { result ≡ expressions.sees_call self.now }
     {
@@ -62,7 +62,7 @@ impl<'a> Cursor<'a> {
     }
 
     /// Whether the next token is a minus, and its place. It has to be a plus or a minus.
-    #[tactic(auto, unfolding(crate::specs::Reading::one, crate::specs::Tree::additive_in))]
+    #[tactic(auto, unfolding(crate::specs::inner::Reading::one, crate::specs::Tree::additive_in))]
     pub(crate) fn additive(&mut self) -> Result<(bool, usize), ReadFault>
         ensures { Reads (reading.one spec.additive_in self.old) result self.new }
     {
@@ -87,7 +87,7 @@ impl<'a> Cursor<'a> {
     }
 
     /// The comparison that the next token has to be, and its place.
-    #[tactic(auto, unfolding(crate::specs::Reading::one))]
+    #[tactic(auto, unfolding(crate::specs::inner::Reading::one))]
     pub(crate) fn comparison(&mut self) -> Result<(CompareOp, usize), ReadFault>
         ensures { Reads (reading.one spec.comparison_in self.old) result self.new }
     {
@@ -102,7 +102,7 @@ impl<'a> Cursor<'a> {
     }
 
     /// Whether the next token is a comparison.
-    #[tactic(auto, unfolding(crate::specs::ExprReading::sees_comparison))]
+    #[tactic(auto, unfolding(crate::specs::inner::ExprReading::sees_comparison))]
     pub(crate) fn sees_comparison(&self) -> bool
         ensures { result ≡ expressions.sees_comparison self.now }
     {
@@ -131,7 +131,7 @@ impl<'a> Cursor<'a> {
     }
 
     /// The place of the next token, which has to be AND, as a word or as a sign.
-    #[tactic(auto, unfolding(crate::specs::Reading::either))]
+    #[tactic(auto, unfolding(crate::specs::inner::Reading::either))]
     pub(crate) fn and_mark(&mut self) -> Result<usize, ReadFault>
         ensures { Reads (expressions.and_mark self.old) result self.new }
     {

@@ -2,8 +2,8 @@
 
 ghost use Rattle.std.specs.Prelude.{◌≡◌, ◌<◌, IfOk, IfSome};
 ghost use Rattle.sa_parser.specs.Token as spec;
-ghost use Rattle.sa_parser.specs.Reading as reading;
-ghost use Rattle.sa_parser.specs.Reads.{Reads};
+ghost use Rattle.sa_parser.specs.inner.Reading as reading;
+ghost use Rattle.sa_parser.specs.inner.Reads.{Reads};
 
 use crate::cursor::Cursor;
 use crate::fault::ReadFault;
@@ -21,7 +21,7 @@ impl<'a> Cursor<'a> {
     }
 
     /// The next token, which has to be a number.
-    #[tactic(auto, unfolding(crate::specs::Reading::one))]
+    #[tactic(auto, unfolding(crate::specs::inner::Reading::one))]
     pub(crate) fn number(&mut self) -> Result<u128, ReadFault>
         ensures { Reads (reading.number self.old) result self.new }
     {
@@ -38,7 +38,7 @@ impl<'a> Cursor<'a> {
     }
 
     /// The next token, which has to be a number below a bound.
-    #[tactic(auto, unfolding(crate::specs::Reading::one))]
+    #[tactic(auto, unfolding(crate::specs::inner::Reading::one))]
     pub(crate) fn number_below(&mut self, bound: u128) -> Result<u128, ReadFault>
         ensures read { Reads (reading.number_below bound self.old) result self.new }
         ensures below { IfOk result (λ number. number < bound) }

@@ -1,14 +1,14 @@
 //! What comes next in a query.
 
 ghost use Rattle.std.specs.Prelude.{◌≡◌};
-ghost use Rattle.sa_parser.specs.SelectReading as reading;
+ghost use Rattle.sa_parser.specs.inner.SelectReading as reading;
 
 use crate::cursor::{Cursor, is_sign, name_of};
 use sa_lexer::Sign;
 
 impl<'a> Cursor<'a> {
     /// Whether a name, a dot and a star come next.
-    #[tactic(auto, unfolding(crate::specs::SelectReading::sees_table_star))]
+    #[tactic(auto, unfolding(crate::specs::inner::SelectReading::sees_table_star))]
     pub(crate) fn sees_table_star(&self) -> bool
         ensures { result ≡ reading.sees_table_star self.now }
     {

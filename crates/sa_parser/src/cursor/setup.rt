@@ -2,9 +2,9 @@
 
 ghost use Rattle.std.specs.Prelude.{◌≡◌, IfOk};
 ghost use Rattle.sa_parser.specs.SetupTree as spec;
-ghost use Rattle.sa_parser.specs.SetupReading as setup;
-ghost use Rattle.sa_parser.specs.Reading as reading;
-ghost use Rattle.sa_parser.specs.Reads.{Reads};
+ghost use Rattle.sa_parser.specs.inner.SetupReading as setup;
+ghost use Rattle.sa_parser.specs.inner.Reading as reading;
+ghost use Rattle.sa_parser.specs.inner.Reads.{Reads};
 
 use crate::cursor::{Cursor, is_word};
 use crate::fault::ReadFault;
@@ -33,7 +33,7 @@ impl<'a> Cursor<'a> {
     }
 
     /// The next token, which has to be a value by itself: a number, a text, or NULL.
-    #[tactic(auto, unfolding(crate::specs::Reading::one))]
+    #[tactic(auto, unfolding(crate::specs::inner::Reading::one))]
     pub(crate) fn value(&mut self, alloc: Global) -> Result<Value, ReadFault>
         ensures { Reads (reading.one spec.literal_in self.old) result self.new }
     {

@@ -2,9 +2,9 @@
 
 ghost use Rattle.std.specs.Prelude.{◌≡◌, ◌<◌, ◌^◌, ◌+◌, IfOk, IfSome};
 ghost use Rattle.sa_parser.specs.StatementGrammar as spec;
-ghost use Rattle.sa_parser.specs.StatementReading as statements;
-ghost use Rattle.sa_parser.specs.Reading as reading;
-ghost use Rattle.sa_parser.specs.Reads.{Reads};
+ghost use Rattle.sa_parser.specs.inner.StatementReading as statements;
+ghost use Rattle.sa_parser.specs.inner.Reading as reading;
+ghost use Rattle.sa_parser.specs.inner.Reads.{Reads};
 
 use crate::cursor::number::number_of;
 use crate::cursor::{Cursor, is_sign, is_word};
@@ -16,7 +16,7 @@ const STEP_COUNTS: u128 = (1 << 40) + 1;
 
 impl<'a> Cursor<'a> {
     /// Whether what comes next is the query for the trace, up to its dot.
-    #[tactic(auto, unfolding(crate::specs::StatementReading::sees_trace))]
+    #[tactic(auto, unfolding(crate::specs::inner::StatementReading::sees_trace))]
     pub(crate) fn sees_trace(&self) -> bool
         ensures { result ≡ statements.sees_trace self.now }
     {
@@ -33,7 +33,7 @@ impl<'a> Cursor<'a> {
     }
 
     /// The next token, which has to be a text that switches the trace on or off.
-    #[tactic(auto, unfolding(crate::specs::Reading::one))]
+    #[tactic(auto, unfolding(crate::specs::inner::Reading::one))]
     pub(crate) fn switch(&mut self) -> Result<bool, ReadFault>
         ensures { Reads (reading.one spec.switch_in self.old) result self.new }
     {
@@ -56,7 +56,7 @@ impl<'a> Cursor<'a> {
     }
 
     /// The next token, which has to be a number of row steps, and not 0.
-    #[tactic(auto, unfolding(crate::specs::Reading::one))]
+    #[tactic(auto, unfolding(crate::specs::inner::Reading::one))]
     pub(crate) fn steps(&mut self) -> Result<u64, ReadFault>
         ensures { Reads (reading.one spec.steps_in self.old) result self.new }
     {

@@ -1,5 +1,5 @@
-ghost use Rattle.sa_parser.specs.SelectReading as reading;
-ghost use Rattle.sa_parser.specs.Reads.{Reads};
+ghost use Rattle.sa_parser.specs.inner.SelectReading as reading;
+ghost use Rattle.sa_parser.specs.inner.Reads.{Reads};
 
 use crate::cursor::Cursor;
 use crate::fault::ReadFault;
@@ -7,7 +7,7 @@ use sa_ast::NameTree;
 use std::alloc::Global;
 
 /// An alias, with AS or without it, if one is written.
-#[tactic(auto, unfolding(crate::specs::SelectReading::alias, crate::specs::Reading::perhaps, crate::specs::Reading::either, crate::specs::Reading::made, crate::specs::Reading::then_read))]
+#[tactic(auto, unfolding(crate::specs::inner::SelectReading::alias, crate::specs::inner::Reading::perhaps, crate::specs::inner::Reading::either, crate::specs::inner::Reading::made, crate::specs::inner::Reading::then_read))]
 pub(crate) fn alias(alloc: Global, cursor: &mut Cursor<'_>) -> Result<Option<NameTree>, ReadFault>
     ensures { Reads (reading.alias cursor.old) result cursor.new }
 {

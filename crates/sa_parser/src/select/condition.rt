@@ -1,10 +1,10 @@
 //! The conditions of WHERE, ON and HAVING.
 
 ghost use Rattle.sa_parser.specs.declared.rule.Rule.TheVariants as rules;
-ghost use Rattle.sa_parser.specs.ExprReading.{nested_read};
-ghost use Rattle.sa_parser.specs.Reading as reading;
-ghost use Rattle.sa_parser.specs.SelectReading as select;
-ghost use Rattle.sa_parser.specs.Reads.{Reads};
+ghost use Rattle.sa_parser.specs.inner.ExprReading.{nested_read};
+ghost use Rattle.sa_parser.specs.inner.Reading as reading;
+ghost use Rattle.sa_parser.specs.inner.SelectReading as select;
+ghost use Rattle.sa_parser.specs.inner.Reads.{Reads};
 
 use crate::cursor::Cursor;
 use crate::expression::nested;
@@ -15,7 +15,7 @@ use sqlite_items::Boxed;
 use std::alloc::Global;
 
 /// The condition behind this word, if the word comes next.
-#[tactic(auto, unfolding(crate::specs::Reading::perhaps, crate::specs::Reading::made, crate::specs::Reading::then_read))]
+#[tactic(auto, unfolding(crate::specs::inner::Reading::perhaps, crate::specs::inner::Reading::made, crate::specs::inner::Reading::then_read))]
 pub(crate) fn condition(
     alloc: Global,
     levels: usize,
@@ -33,7 +33,7 @@ pub(crate) fn condition(
 }
 
 /// The condition of HAVING and the place of that word, if it is written.
-#[tactic(auto, unfolding(crate::specs::SelectReading::having, crate::specs::Reading::perhaps, crate::specs::Reading::made, crate::specs::Reading::then_read))]
+#[tactic(auto, unfolding(crate::specs::inner::SelectReading::having, crate::specs::inner::Reading::perhaps, crate::specs::inner::Reading::made, crate::specs::inner::Reading::then_read))]
 pub(crate) fn having(
     alloc: Global,
     levels: usize,

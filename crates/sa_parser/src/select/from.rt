@@ -1,11 +1,11 @@
 //! The tables of FROM.
 
 ghost use Rattle.sa_parser.specs.declared.rule.Rule.TheVariants as rules;
-ghost use Rattle.sa_parser.specs.ExprReading.{nested_read};
-ghost use Rattle.sa_parser.specs.Reading as reading;
-ghost use Rattle.sa_parser.specs.SelectReading as select;
+ghost use Rattle.sa_parser.specs.inner.ExprReading.{nested_read};
+ghost use Rattle.sa_parser.specs.inner.Reading as reading;
+ghost use Rattle.sa_parser.specs.inner.SelectReading as select;
 ghost use Rattle.sa_parser.specs.SelectTree as trees;
-ghost use Rattle.sa_parser.specs.Reads.{Reads};
+ghost use Rattle.sa_parser.specs.inner.Reads.{Reads};
 ghost use Rattle.std.specs.Prelude.{codes};
 
 use crate::cursor::Cursor;
@@ -18,7 +18,7 @@ use sqlite_items::{Boxed, Items};
 use std::alloc::Global;
 
 /// A table, with its alias.
-#[tactic(auto, unfolding(crate::specs::SelectReading::table, crate::specs::Reading::made, crate::specs::Reading::then_read))]
+#[tactic(auto, unfolding(crate::specs::inner::SelectReading::table, crate::specs::inner::Reading::made, crate::specs::inner::Reading::then_read))]
 fn table(alloc: Global, cursor: &mut Cursor<'_>) -> Result<TableTree, ReadFault>
     ensures { Reads (select.table cursor.old) result cursor.new }
 {
@@ -33,7 +33,7 @@ fn table(alloc: Global, cursor: &mut Cursor<'_>) -> Result<TableTree, ReadFault>
 }
 
 /// The place of JOIN. INNER and CROSS before it say nothing more.
-#[tactic(auto, unfolding(crate::specs::SelectReading::join, crate::specs::Reading::perhaps, crate::specs::Reading::either, crate::specs::Reading::made, crate::specs::Reading::then_read))]
+#[tactic(auto, unfolding(crate::specs::inner::SelectReading::join, crate::specs::inner::Reading::perhaps, crate::specs::inner::Reading::either, crate::specs::inner::Reading::made, crate::specs::inner::Reading::then_read))]
 fn join(cursor: &mut Cursor<'_>) -> Result<usize, ReadFault>
     ensures { Reads (select.join cursor.old) result cursor.new }
 {
@@ -46,7 +46,7 @@ fn join(cursor: &mut Cursor<'_>) -> Result<usize, ReadFault>
 }
 
 /// A table behind JOIN, with its condition.
-#[tactic(auto, unfolding(crate::specs::Reading::made, crate::specs::Reading::then_read))]
+#[tactic(auto, unfolding(crate::specs::inner::Reading::made, crate::specs::inner::Reading::then_read))]
 fn joined_table(
     alloc: Global,
     levels: usize,
@@ -67,7 +67,7 @@ fn joined_table(
 }
 
 /// Tables with JOIN between them.
-#[tactic(auto, using(crate::proofs::ReadingChains::turns), unfolding(crate::specs::SelectReading::joined, crate::specs::Reading::made, crate::specs::Reading::chain))]
+#[tactic(auto, using(crate::proofs::ReadingChains::turns), unfolding(crate::specs::inner::SelectReading::joined, crate::specs::inner::Reading::made, crate::specs::inner::Reading::chain))]
 fn joined(alloc: Global, levels: usize, cursor: &mut Cursor<'_>) -> Result<TableTrees, ReadFault>
     ensures { Reads (select.joined (nested_read levels rules.Expression) cursor.old) result cursor.new }
 {
@@ -84,7 +84,7 @@ fn joined(alloc: Global, levels: usize, cursor: &mut Cursor<'_>) -> Result<Table
 }
 
 /// All tables, with commas and JOIN between them.
-#[tactic(auto, using(crate::proofs::ReadingChains::turns), unfolding(crate::specs::SelectReading::tables, crate::specs::Reading::made, crate::specs::Reading::then_read, crate::specs::Reading::chain))]
+#[tactic(auto, using(crate::proofs::ReadingChains::turns), unfolding(crate::specs::inner::SelectReading::tables, crate::specs::inner::Reading::made, crate::specs::inner::Reading::then_read, crate::specs::inner::Reading::chain))]
 pub(crate) fn tables(
     alloc: Global,
     levels: usize,

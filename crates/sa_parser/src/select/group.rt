@@ -1,11 +1,11 @@
 //! GROUP BY.
 
 ghost use Rattle.sa_parser.specs.declared.rule.Rule.TheVariants as rules;
-ghost use Rattle.sa_parser.specs.ExprReading.{nested_read};
-ghost use Rattle.sa_parser.specs.Reading as reading;
-ghost use Rattle.sa_parser.specs.SelectReading as select;
+ghost use Rattle.sa_parser.specs.inner.ExprReading.{nested_read};
+ghost use Rattle.sa_parser.specs.inner.Reading as reading;
+ghost use Rattle.sa_parser.specs.inner.SelectReading as select;
 ghost use Rattle.sa_parser.specs.SelectTree as trees;
-ghost use Rattle.sa_parser.specs.Reads.{Reads};
+ghost use Rattle.sa_parser.specs.inner.Reads.{Reads};
 
 use crate::commas::{Listed, commas};
 use crate::cursor::Cursor;
@@ -20,7 +20,7 @@ impl Listed for GroupTree {
     ghost part = { λ levels. reading.placed trees.group_item (nested_read levels rules.Expression) };
 
     /// An expression by which rows are grouped.
-    #[tactic(auto, unfolding(crate::specs::Reading::placed))]
+    #[tactic(auto, unfolding(crate::specs::inner::Reading::placed))]
     fn read(alloc: Global, levels: usize, cursor: &mut Cursor<'_>) -> Result<GroupTree, ReadFault> {
         let place = cursor.place();
         let value = nested(alloc, levels, Rule::Expression, cursor)?.into_inner();
@@ -29,7 +29,7 @@ impl Listed for GroupTree {
 }
 
 /// The items of GROUP BY; none where it isn't written.
-#[tactic(auto, unfolding(crate::specs::SelectReading::group, crate::specs::Reading::perhaps, crate::specs::Reading::made, crate::specs::Reading::then_read))]
+#[tactic(auto, unfolding(crate::specs::inner::SelectReading::group, crate::specs::inner::Reading::perhaps, crate::specs::inner::Reading::made, crate::specs::inner::Reading::then_read))]
 pub(crate) fn group(
     alloc: Global,
     levels: usize,

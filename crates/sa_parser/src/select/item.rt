@@ -1,8 +1,8 @@
 //! The select list.
 
 ghost use Rattle.sa_parser.specs.declared.rule.Rule.TheVariants as rules;
-ghost use Rattle.sa_parser.specs.ExprReading.{nested_read};
-ghost use Rattle.sa_parser.specs.SelectReading as reading;
+ghost use Rattle.sa_parser.specs.inner.ExprReading.{nested_read};
+ghost use Rattle.sa_parser.specs.inner.SelectReading as reading;
 
 use crate::commas::Listed;
 use crate::cursor::Cursor;
@@ -18,7 +18,7 @@ impl Listed for ItemTree {
     ghost part = { λ levels. reading.item (nested_read levels rules.Expression) };
 
     /// `*`, `t.*`, or an expression with its alias.
-    #[tactic(auto, unfolding(crate::specs::SelectReading::item, crate::specs::Reading::either, crate::specs::Reading::placed, crate::specs::Reading::made, crate::specs::Reading::then_read))]
+    #[tactic(auto, unfolding(crate::specs::inner::SelectReading::item, crate::specs::inner::Reading::either, crate::specs::inner::Reading::placed, crate::specs::inner::Reading::made, crate::specs::inner::Reading::then_read))]
     fn read(alloc: Global, levels: usize, cursor: &mut Cursor<'_>) -> Result<ItemTree, ReadFault> {
         if cursor.sees_sign(Sign::Star) {
             let place = cursor.sign(Sign::Star)?;

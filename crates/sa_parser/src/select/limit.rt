@@ -1,9 +1,9 @@
 //! LIMIT.
 
 ghost use Rattle.std.specs.Prelude.{◌^◌};
-ghost use Rattle.sa_parser.specs.Reading as reading;
-ghost use Rattle.sa_parser.specs.SelectReading as select;
-ghost use Rattle.sa_parser.specs.Reads.{Reads};
+ghost use Rattle.sa_parser.specs.inner.Reading as reading;
+ghost use Rattle.sa_parser.specs.inner.SelectReading as select;
+ghost use Rattle.sa_parser.specs.inner.Reads.{Reads};
 
 use crate::cursor::Cursor;
 use crate::fault::ReadFault;
@@ -22,7 +22,7 @@ fn row_count(cursor: &mut Cursor<'_>) -> Result<u64, ReadFault>
 }
 
 /// Whether a comma stands before the second number, and that number.
-#[tactic(auto, unfolding(crate::specs::SelectReading::second_limit, crate::specs::Reading::made, crate::specs::Reading::either, crate::specs::Reading::then_read))]
+#[tactic(auto, unfolding(crate::specs::inner::SelectReading::second_limit, crate::specs::inner::Reading::made, crate::specs::inner::Reading::either, crate::specs::inner::Reading::then_read))]
 fn second_limit(cursor: &mut Cursor<'_>) -> Result<(bool, u64), ReadFault>
     ensures { Reads (select.second_limit cursor.old) result cursor.new }
 {
@@ -36,7 +36,7 @@ fn second_limit(cursor: &mut Cursor<'_>) -> Result<(bool, u64), ReadFault>
 }
 
 /// The numbers of LIMIT, if it is written.
-#[tactic(auto, unfolding(crate::specs::SelectReading::limit, crate::specs::Reading::made, crate::specs::Reading::perhaps, crate::specs::Reading::then_read))]
+#[tactic(auto, unfolding(crate::specs::inner::SelectReading::limit, crate::specs::inner::Reading::made, crate::specs::inner::Reading::perhaps, crate::specs::inner::Reading::then_read))]
 pub(crate) fn limit(cursor: &mut Cursor<'_>) -> Result<Option<Limits>, ReadFault>
     ensures { Reads (select.limit cursor.old) result cursor.new }
 {

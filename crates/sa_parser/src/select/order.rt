@@ -1,9 +1,9 @@
 //! ORDER BY.
 
 ghost use Rattle.sa_parser.specs.declared.rule.Rule.TheVariants as rules;
-ghost use Rattle.sa_parser.specs.ExprReading.{nested_read};
-ghost use Rattle.sa_parser.specs.SelectReading as reading;
-ghost use Rattle.sa_parser.specs.Reads.{Reads};
+ghost use Rattle.sa_parser.specs.inner.ExprReading.{nested_read};
+ghost use Rattle.sa_parser.specs.inner.SelectReading as reading;
+ghost use Rattle.sa_parser.specs.inner.Reads.{Reads};
 
 use crate::commas::{Listed, commas};
 use crate::cursor::Cursor;
@@ -15,7 +15,7 @@ use sqlite_items::Items;
 use std::alloc::Global;
 
 /// Whether DESC is written, and not ASC or neither.
-#[tactic(auto, unfolding(crate::specs::SelectReading::direction, crate::specs::Reading::made, crate::specs::Reading::perhaps, crate::specs::Reading::either))]
+#[tactic(auto, unfolding(crate::specs::inner::SelectReading::direction, crate::specs::inner::Reading::made, crate::specs::inner::Reading::perhaps, crate::specs::inner::Reading::either))]
 fn direction(cursor: &mut Cursor<'_>) -> Result<bool, ReadFault>
     ensures { Reads (reading.direction cursor.old) result cursor.new }
 {
@@ -34,7 +34,7 @@ impl Listed for OrderTree {
     ghost part = { λ levels. reading.order_item_read (nested_read levels rules.Expression) };
 
     /// An expression by which rows are ordered, with its direction.
-    #[tactic(auto, unfolding(crate::specs::SelectReading::order_item_read, crate::specs::Reading::placed, crate::specs::Reading::made, crate::specs::Reading::then_read))]
+    #[tactic(auto, unfolding(crate::specs::inner::SelectReading::order_item_read, crate::specs::inner::Reading::placed, crate::specs::inner::Reading::made, crate::specs::inner::Reading::then_read))]
     fn read(alloc: Global, levels: usize, cursor: &mut Cursor<'_>) -> Result<OrderTree, ReadFault> {
         let place = cursor.place();
         let value = nested(alloc, levels, Rule::Expression, cursor)?;
@@ -45,7 +45,7 @@ impl Listed for OrderTree {
 }
 
 /// The items of ORDER BY; none where it isn't written.
-#[tactic(auto, unfolding(crate::specs::SelectReading::order, crate::specs::Reading::perhaps, crate::specs::Reading::made, crate::specs::Reading::then_read))]
+#[tactic(auto, unfolding(crate::specs::inner::SelectReading::order, crate::specs::inner::Reading::perhaps, crate::specs::inner::Reading::made, crate::specs::inner::Reading::then_read))]
 pub(crate) fn order(
     alloc: Global,
     levels: usize,

@@ -2,9 +2,9 @@
 
 ghost use Rattle.std.specs.Prelude.{◌^◌};
 ghost use Rattle.sa_parser.specs.SetupTree as trees;
-ghost use Rattle.sa_parser.specs.Reading as reading;
-ghost use Rattle.sa_parser.specs.SetupReading as setup;
-ghost use Rattle.sa_parser.specs.Reads.{Reads};
+ghost use Rattle.sa_parser.specs.inner.Reading as reading;
+ghost use Rattle.sa_parser.specs.inner.SetupReading as setup;
+ghost use Rattle.sa_parser.specs.inner.Reads.{Reads};
 
 use crate::cursor::Cursor;
 use crate::fault::ReadFault;
@@ -18,7 +18,7 @@ use std::alloc::Global;
 const TEXT_SIZES: u128 = 1 << 14;
 
 /// A column, with the keys that its options make.
-#[tactic(auto, using(crate::proofs::ReadingChains::turns), unfolding(crate::specs::SetupReading::column, crate::specs::Reading::chain, crate::specs::Reading::made, crate::specs::Reading::then_read))]
+#[tactic(auto, using(crate::proofs::ReadingChains::turns), unfolding(crate::specs::inner::SetupReading::column, crate::specs::inner::Reading::chain, crate::specs::inner::Reading::made, crate::specs::inner::Reading::then_read))]
 pub(crate) fn column(alloc: Global, cursor: &mut Cursor<'_>) -> Result<Part, ReadFault>
     ensures { Reads (setup.column cursor.old) result cursor.new }
 {
@@ -44,7 +44,7 @@ pub(crate) fn column(alloc: Global, cursor: &mut Cursor<'_>) -> Result<Part, Rea
 }
 
 /// What a column can hold.
-#[tactic(auto, unfolding(crate::specs::SetupReading::kind, crate::specs::Reading::either, crate::specs::Reading::made, crate::specs::Reading::then_read))]
+#[tactic(auto, unfolding(crate::specs::inner::SetupReading::kind, crate::specs::inner::Reading::either, crate::specs::inner::Reading::made, crate::specs::inner::Reading::then_read))]
 fn kind(cursor: &mut Cursor<'_>) -> Result<KindTree, ReadFault>
     ensures { Reads (setup.kind cursor.old) result cursor.new }
 {
@@ -70,7 +70,7 @@ fn kind(cursor: &mut Cursor<'_>) -> Result<KindTree, ReadFault>
 }
 
 /// How many digits are shown of a number, if that is written. It says nothing.
-#[tactic(auto, unfolding(crate::specs::SetupReading::digits, crate::specs::Reading::perhaps, crate::specs::Reading::made, crate::specs::Reading::then_read))]
+#[tactic(auto, unfolding(crate::specs::inner::SetupReading::digits, crate::specs::inner::Reading::perhaps, crate::specs::inner::Reading::made, crate::specs::inner::Reading::then_read))]
 fn digits(cursor: &mut Cursor<'_>) -> Result<Option<u128>, ReadFault>
     ensures { Reads (setup.digits cursor.old) result cursor.new }
 {
@@ -84,7 +84,7 @@ fn digits(cursor: &mut Cursor<'_>) -> Result<Option<u128>, ReadFault>
 }
 
 /// An option of a column.
-#[tactic(auto, unfolding(crate::specs::SetupReading::option, crate::specs::Reading::perhaps, crate::specs::Reading::either, crate::specs::Reading::made, crate::specs::Reading::then_read))]
+#[tactic(auto, unfolding(crate::specs::inner::SetupReading::option, crate::specs::inner::Reading::perhaps, crate::specs::inner::Reading::either, crate::specs::inner::Reading::made, crate::specs::inner::Reading::then_read))]
 fn option(cursor: &mut Cursor<'_>) -> Result<ColumnOption, ReadFault>
     ensures { Reads (setup.option cursor.old) result cursor.new }
 {

@@ -1,7 +1,7 @@
 //! CREATE TABLE.
 
-ghost use Rattle.sa_parser.specs.SetupReading as reading;
-ghost use Rattle.sa_parser.specs.Reads.{Reads};
+ghost use Rattle.sa_parser.specs.inner.SetupReading as reading;
+ghost use Rattle.sa_parser.specs.inner.Reads.{Reads};
 
 use crate::cursor::Cursor;
 use crate::fault::ReadFault;
@@ -13,7 +13,7 @@ use sa_lexer::Sign;
 use std::alloc::Global;
 
 /// The definition of a table. What ENGINE says behind it is passed over.
-#[tactic(auto, using(crate::proofs::ReadingChains::turns), unfolding(crate::specs::SetupReading::create, crate::specs::Reading::chain, crate::specs::Reading::made, crate::specs::Reading::then_read))]
+#[tactic(auto, using(crate::proofs::ReadingChains::turns), unfolding(crate::specs::inner::SetupReading::create, crate::specs::inner::Reading::chain, crate::specs::inner::Reading::made, crate::specs::inner::Reading::then_read))]
 pub(crate) fn create(alloc: Global, cursor: &mut Cursor<'_>) -> Result<CreateTree, ReadFault>
     ensures { Reads (reading.create cursor.old) result cursor.new }
 {
@@ -39,7 +39,7 @@ pub(crate) fn create(alloc: Global, cursor: &mut Cursor<'_>) -> Result<CreateTre
 }
 
 /// One or more parts of a definition, with commas between them.
-#[tactic(auto, using(crate::proofs::ReadingChains::turns), unfolding(crate::specs::SetupReading::definition, crate::specs::Reading::chain, crate::specs::Reading::made, crate::specs::Reading::then_read))]
+#[tactic(auto, using(crate::proofs::ReadingChains::turns), unfolding(crate::specs::inner::SetupReading::definition, crate::specs::inner::Reading::chain, crate::specs::inner::Reading::made, crate::specs::inner::Reading::then_read))]
 fn definition(alloc: Global, cursor: &mut Cursor<'_>) -> Result<Parts, ReadFault>
     ensures { Reads (reading.definition cursor.old) result cursor.new }
 {
@@ -57,7 +57,7 @@ fn definition(alloc: Global, cursor: &mut Cursor<'_>) -> Result<Parts, ReadFault
 }
 
 /// A column or a key.
-#[tactic(auto, unfolding(crate::specs::SetupReading::part, crate::specs::Reading::either))]
+#[tactic(auto, unfolding(crate::specs::inner::SetupReading::part, crate::specs::inner::Reading::either))]
 fn part(alloc: Global, cursor: &mut Cursor<'_>) -> Result<Part, ReadFault>
     ensures { Reads (reading.part cursor.old) result cursor.new }
 {
@@ -69,7 +69,7 @@ fn part(alloc: Global, cursor: &mut Cursor<'_>) -> Result<Part, ReadFault>
 }
 
 /// The place of ENGINE, before a name.
-#[tactic(auto, unfolding(crate::specs::SetupReading::engine, crate::specs::Reading::perhaps, crate::specs::Reading::made, crate::specs::Reading::then_read))]
+#[tactic(auto, unfolding(crate::specs::inner::SetupReading::engine, crate::specs::inner::Reading::perhaps, crate::specs::inner::Reading::made, crate::specs::inner::Reading::then_read))]
 fn engine(alloc: Global, cursor: &mut Cursor<'_>) -> Result<usize, ReadFault>
     ensures { Reads (reading.engine cursor.old) result cursor.new }
 {

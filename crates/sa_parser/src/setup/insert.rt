@@ -1,8 +1,8 @@
 //! INSERT.
 
-ghost use Rattle.sa_parser.specs.Reading as reading;
-ghost use Rattle.sa_parser.specs.SetupReading as setup;
-ghost use Rattle.sa_parser.specs.Reads.{Reads};
+ghost use Rattle.sa_parser.specs.inner.Reading as reading;
+ghost use Rattle.sa_parser.specs.inner.SetupReading as setup;
+ghost use Rattle.sa_parser.specs.inner.Reads.{Reads};
 
 use crate::commas::{Listed, commas};
 use crate::cursor::Cursor;
@@ -24,7 +24,7 @@ impl Listed for TupleTree {
     ghost part = { λ _. setup.tuple };
 
     /// The values of one row, in brackets.
-    #[tactic(auto, unfolding(crate::specs::SetupReading::tuple, crate::specs::Reading::placed, crate::specs::Reading::made, crate::specs::Reading::then_read))]
+    #[tactic(auto, unfolding(crate::specs::inner::SetupReading::tuple, crate::specs::inner::Reading::placed, crate::specs::inner::Reading::made, crate::specs::inner::Reading::then_read))]
     fn read(
         alloc: Global,
         _levels: usize,
@@ -39,7 +39,7 @@ impl Listed for TupleTree {
 }
 
 /// Rows for a table.
-#[tactic(auto, unfolding(crate::specs::SetupReading::insert, crate::specs::Reading::made, crate::specs::Reading::then_read))]
+#[tactic(auto, unfolding(crate::specs::inner::SetupReading::insert, crate::specs::inner::Reading::made, crate::specs::inner::Reading::then_read))]
 pub(crate) fn insert(alloc: Global, cursor: &mut Cursor<'_>) -> Result<InsertTree, ReadFault>
     ensures { Reads (setup.insert cursor.old) result cursor.new }
 {
@@ -57,7 +57,7 @@ pub(crate) fn insert(alloc: Global, cursor: &mut Cursor<'_>) -> Result<InsertTre
 }
 
 /// The columns that the values are for, in brackets, if they are written.
-#[tactic(auto, unfolding(crate::specs::Reading::perhaps, crate::specs::Reading::made, crate::specs::Reading::then_read))]
+#[tactic(auto, unfolding(crate::specs::inner::Reading::perhaps, crate::specs::inner::Reading::made, crate::specs::inner::Reading::then_read))]
 fn columns(alloc: Global, cursor: &mut Cursor<'_>) -> Result<Option<NameTrees>, ReadFault>
     ensures { Reads (reading.perhaps (reading.sees_sign Sign.LeftParen) (reading.brackets (reading.commas reading.name)) cursor.old) result cursor.new }
 {

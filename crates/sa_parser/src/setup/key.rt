@@ -1,8 +1,8 @@
 //! The keys of a table's definition that stand by themselves.
 
-ghost use Rattle.sa_parser.specs.Reading as reading;
-ghost use Rattle.sa_parser.specs.SetupReading as setup;
-ghost use Rattle.sa_parser.specs.Reads.{Reads};
+ghost use Rattle.sa_parser.specs.inner.Reading as reading;
+ghost use Rattle.sa_parser.specs.inner.SetupReading as setup;
+ghost use Rattle.sa_parser.specs.inner.Reads.{Reads};
 
 use crate::cursor::Cursor;
 use crate::fault::ReadFault;
@@ -13,7 +13,7 @@ use sa_value::{Text, Texts};
 use std::alloc::Global;
 
 /// A key by itself.
-#[tactic(auto, unfolding(crate::specs::SetupReading::key_part, crate::specs::Reading::perhaps, crate::specs::Reading::either, crate::specs::Reading::made, crate::specs::Reading::then_read))]
+#[tactic(auto, unfolding(crate::specs::inner::SetupReading::key_part, crate::specs::inner::Reading::perhaps, crate::specs::inner::Reading::either, crate::specs::inner::Reading::made, crate::specs::inner::Reading::then_read))]
 pub(crate) fn key_part(alloc: Global, cursor: &mut Cursor<'_>) -> Result<Part, ReadFault>
     ensures { Reads (setup.key_part cursor.old) result cursor.new }
 {
@@ -41,7 +41,7 @@ pub(crate) fn key_part(alloc: Global, cursor: &mut Cursor<'_>) -> Result<Part, R
 }
 
 /// The place of KEY or INDEX.
-#[tactic(auto, unfolding(crate::specs::SetupReading::key_word, crate::specs::Reading::either))]
+#[tactic(auto, unfolding(crate::specs::inner::SetupReading::key_word, crate::specs::inner::Reading::either))]
 fn key_word(cursor: &mut Cursor<'_>) -> Result<usize, ReadFault>
     ensures { Reads (setup.key_word cursor.old) result cursor.new }
 {
@@ -53,7 +53,7 @@ fn key_word(cursor: &mut Cursor<'_>) -> Result<usize, ReadFault>
 }
 
 /// The name of a key, if one is written.
-#[tactic(auto, unfolding(crate::specs::Reading::perhaps, crate::specs::Reading::made))]
+#[tactic(auto, unfolding(crate::specs::inner::Reading::perhaps, crate::specs::inner::Reading::made))]
 fn key_name(alloc: Global, cursor: &mut Cursor<'_>) -> Result<Option<Text>, ReadFault>
     ensures { Reads (reading.perhaps reading.sees_name setup.name_text cursor.old) result cursor.new }
 {
@@ -65,7 +65,7 @@ fn key_name(alloc: Global, cursor: &mut Cursor<'_>) -> Result<Option<Text>, Read
 }
 
 /// The names of a key's columns, in brackets.
-#[tactic(auto, unfolding(crate::specs::SetupReading::columns, crate::specs::Reading::made, crate::specs::Reading::then_read))]
+#[tactic(auto, unfolding(crate::specs::inner::SetupReading::columns, crate::specs::inner::Reading::made, crate::specs::inner::Reading::then_read))]
 fn columns(alloc: Global, cursor: &mut Cursor<'_>) -> Result<Texts, ReadFault>
     ensures { Reads (setup.columns cursor.old) result cursor.new }
 {
@@ -76,7 +76,7 @@ fn columns(alloc: Global, cursor: &mut Cursor<'_>) -> Result<Texts, ReadFault>
 }
 
 /// One or more names, with commas between them.
-#[tactic(auto, using(crate::proofs::ReadingChains::turns), unfolding(crate::specs::Reading::chain, crate::specs::Reading::made, crate::specs::Reading::then_read))]
+#[tactic(auto, using(crate::proofs::ReadingChains::turns), unfolding(crate::specs::inner::Reading::chain, crate::specs::inner::Reading::made, crate::specs::inner::Reading::then_read))]
 fn names(alloc: Global, cursor: &mut Cursor<'_>) -> Result<Texts, ReadFault>
     ensures { Reads (reading.commas setup.name_text cursor.old) result cursor.new }
 {

@@ -1,8 +1,8 @@
 //! The values of an INSERT.
 
-ghost use Rattle.sa_parser.specs.Reading as reading;
-ghost use Rattle.sa_parser.specs.SetupReading as setup;
-ghost use Rattle.sa_parser.specs.Reads.{Reads};
+ghost use Rattle.sa_parser.specs.inner.Reading as reading;
+ghost use Rattle.sa_parser.specs.inner.SetupReading as setup;
+ghost use Rattle.sa_parser.specs.inner.Reads.{Reads};
 
 use crate::cursor::Cursor;
 use crate::fault::ReadFault;
@@ -15,7 +15,7 @@ use std::alloc::Global;
 const MAGNITUDES: u128 = 1 << 127;
 
 /// One or more values, with commas between them.
-#[tactic(auto, using(crate::proofs::ReadingChains::turns), unfolding(crate::specs::Reading::chain, crate::specs::Reading::made, crate::specs::Reading::then_read))]
+#[tactic(auto, using(crate::proofs::ReadingChains::turns), unfolding(crate::specs::inner::Reading::chain, crate::specs::inner::Reading::made, crate::specs::inner::Reading::then_read))]
 pub(crate) fn literals(alloc: Global, cursor: &mut Cursor<'_>) -> Result<Row, ReadFault>
     ensures { Reads (reading.commas setup.literal cursor.old) result cursor.new }
 {
@@ -33,7 +33,7 @@ pub(crate) fn literals(alloc: Global, cursor: &mut Cursor<'_>) -> Result<Row, Re
 }
 
 /// A value: a number with a sign or without one, a text, or NULL.
-#[tactic(auto, unfolding(crate::specs::SetupReading::literal, crate::specs::Reading::either, crate::specs::Reading::made, crate::specs::Reading::then_read))]
+#[tactic(auto, unfolding(crate::specs::inner::SetupReading::literal, crate::specs::inner::Reading::either, crate::specs::inner::Reading::made, crate::specs::inner::Reading::then_read))]
 fn literal(alloc: Global, cursor: &mut Cursor<'_>) -> Result<Value, ReadFault>
     ensures { Reads (setup.literal cursor.old) result cursor.new }
 {

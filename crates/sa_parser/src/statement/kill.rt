@@ -1,15 +1,15 @@
 //! KILL.
 
-ghost use Rattle.sa_parser.specs.Reading as reading;
-ghost use Rattle.sa_parser.specs.StatementReading as statements;
-ghost use Rattle.sa_parser.specs.Reads.{Reads};
+ghost use Rattle.sa_parser.specs.inner.Reading as reading;
+ghost use Rattle.sa_parser.specs.inner.StatementReading as statements;
+ghost use Rattle.sa_parser.specs.inner.Reads.{Reads};
 
 use crate::cursor::Cursor;
 use crate::fault::ReadFault;
 use sa_ast::{KillKind, Statement};
 
 /// What is ended, if it is written.
-#[tactic(auto, unfolding(crate::specs::StatementReading::kill_kind, crate::specs::Reading::perhaps, crate::specs::Reading::either, crate::specs::Reading::made))]
+#[tactic(auto, unfolding(crate::specs::inner::StatementReading::kill_kind, crate::specs::inner::Reading::perhaps, crate::specs::inner::Reading::either, crate::specs::inner::Reading::made))]
 fn kill_kind(cursor: &mut Cursor<'_>) -> Result<Option<KillKind>, ReadFault>
     ensures { Reads (reading.perhaps statements.sees_kill_kind statements.kill_kind cursor.old) result cursor.new }
 {
@@ -25,7 +25,7 @@ fn kill_kind(cursor: &mut Cursor<'_>) -> Result<Option<KillKind>, ReadFault>
 }
 
 /// The end of a session, which is what KILL alone means, or of its statement.
-#[tactic(auto, unfolding(crate::specs::StatementReading::kill, crate::specs::Reading::made, crate::specs::Reading::then_read))]
+#[tactic(auto, unfolding(crate::specs::inner::StatementReading::kill, crate::specs::inner::Reading::made, crate::specs::inner::Reading::then_read))]
 pub(crate) fn kill(cursor: &mut Cursor<'_>) -> Result<Statement, ReadFault>
     ensures { Reads (statements.kill cursor.old) result cursor.new }
 {

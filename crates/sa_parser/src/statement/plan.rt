@@ -1,9 +1,9 @@
 //! EXPLAIN and ANALYZE.
 
 ghost use Rattle.sa_parser.specs.declared.rule.Rule.TheVariants as rules;
-ghost use Rattle.sa_parser.specs.ExprReading.{nested_read};
-ghost use Rattle.sa_parser.specs.StatementReading as reading;
-ghost use Rattle.sa_parser.specs.Reads.{Reads};
+ghost use Rattle.sa_parser.specs.inner.ExprReading.{nested_read};
+ghost use Rattle.sa_parser.specs.inner.StatementReading as reading;
+ghost use Rattle.sa_parser.specs.inner.Reads.{Reads};
 
 use crate::cursor::Cursor;
 use crate::fault::ReadFault;
@@ -13,7 +13,7 @@ use sa_lexer::Sign;
 use std::alloc::Global;
 
 /// The place of `FORMAT = JSON`, if it is written.
-#[tactic(auto, unfolding(crate::specs::StatementReading::format, crate::specs::Reading::perhaps, crate::specs::Reading::made, crate::specs::Reading::then_read))]
+#[tactic(auto, unfolding(crate::specs::inner::StatementReading::format, crate::specs::inner::Reading::perhaps, crate::specs::inner::Reading::made, crate::specs::inner::Reading::then_read))]
 pub(crate) fn format(cursor: &mut Cursor<'_>) -> Result<Option<usize>, ReadFault>
     ensures { Reads (reading.format cursor.old) result cursor.new }
 {
@@ -27,7 +27,7 @@ pub(crate) fn format(cursor: &mut Cursor<'_>) -> Result<Option<usize>, ReadFault
 }
 
 /// `EXPLAIN` of a query, or of what another session runs.
-#[tactic(auto, unfolding(crate::specs::StatementReading::explain, crate::specs::Reading::either, crate::specs::Reading::made, crate::specs::Reading::then_read))]
+#[tactic(auto, unfolding(crate::specs::inner::StatementReading::explain, crate::specs::inner::Reading::either, crate::specs::inner::Reading::made, crate::specs::inner::Reading::then_read))]
 pub(crate) fn explain(
     alloc: Global,
     levels: usize,
@@ -45,7 +45,7 @@ pub(crate) fn explain(
 }
 
 /// `FOR CONNECTION` and the id of a session, behind EXPLAIN.
-#[tactic(auto, unfolding(crate::specs::StatementReading::for_connection, crate::specs::Reading::made, crate::specs::Reading::then_read))]
+#[tactic(auto, unfolding(crate::specs::inner::StatementReading::for_connection, crate::specs::inner::Reading::made, crate::specs::inner::Reading::then_read))]
 fn for_connection(cursor: &mut Cursor<'_>) -> Result<Statement, ReadFault>
     ensures { Reads (reading.for_connection cursor.old) result cursor.new }
 {
@@ -57,7 +57,7 @@ fn for_connection(cursor: &mut Cursor<'_>) -> Result<Statement, ReadFault>
 }
 
 /// `ANALYZE` of a query.
-#[tactic(auto, unfolding(crate::specs::StatementReading::analyze, crate::specs::Reading::made, crate::specs::Reading::then_read))]
+#[tactic(auto, unfolding(crate::specs::inner::StatementReading::analyze, crate::specs::inner::Reading::made, crate::specs::inner::Reading::then_read))]
 pub(crate) fn analyze(
     alloc: Global,
     levels: usize,

@@ -1,7 +1,7 @@
 //! SET.
 
-ghost use Rattle.sa_parser.specs.StatementReading as reading;
-ghost use Rattle.sa_parser.specs.Reads.{Reads};
+ghost use Rattle.sa_parser.specs.inner.StatementReading as reading;
+ghost use Rattle.sa_parser.specs.inner.Reads.{Reads};
 
 use crate::cursor::Cursor;
 use crate::fault::ReadFault;
@@ -10,7 +10,7 @@ use sa_lexer::Sign;
 
 /// Whether plans are traced, or how many row steps a statement may make. SESSION says nothing
 /// more.
-#[tactic(auto, unfolding(crate::specs::StatementReading::set, crate::specs::Reading::perhaps, crate::specs::Reading::either, crate::specs::Reading::made, crate::specs::Reading::then_read))]
+#[tactic(auto, unfolding(crate::specs::inner::StatementReading::set, crate::specs::inner::Reading::perhaps, crate::specs::inner::Reading::either, crate::specs::inner::Reading::made, crate::specs::inner::Reading::then_read))]
 pub(crate) fn set(cursor: &mut Cursor<'_>) -> Result<Statement, ReadFault>
     ensures { Reads (reading.set cursor.old) result cursor.new }
 {
@@ -26,7 +26,7 @@ pub(crate) fn set(cursor: &mut Cursor<'_>) -> Result<Statement, ReadFault>
 }
 
 /// Whether plans are traced.
-#[tactic(auto, unfolding(crate::specs::StatementReading::set_trace, crate::specs::Reading::made, crate::specs::Reading::then_read))]
+#[tactic(auto, unfolding(crate::specs::inner::StatementReading::set_trace, crate::specs::inner::Reading::made, crate::specs::inner::Reading::then_read))]
 fn set_trace(cursor: &mut Cursor<'_>) -> Result<Statement, ReadFault>
     ensures { Reads (reading.set_trace cursor.old) result cursor.new }
 {
@@ -36,7 +36,7 @@ fn set_trace(cursor: &mut Cursor<'_>) -> Result<Statement, ReadFault>
 }
 
 /// How many row steps a statement may make.
-#[tactic(auto, unfolding(crate::specs::StatementReading::set_limit, crate::specs::Reading::made, crate::specs::Reading::then_read))]
+#[tactic(auto, unfolding(crate::specs::inner::StatementReading::set_limit, crate::specs::inner::Reading::made, crate::specs::inner::Reading::then_read))]
 fn set_limit(cursor: &mut Cursor<'_>) -> Result<Statement, ReadFault>
     ensures { Reads (reading.set_limit cursor.old) result cursor.new }
 {

@@ -1,7 +1,7 @@
 //! SHOW EXPLAIN and SHOW ANALYZE.
 
-ghost use Rattle.sa_parser.specs.StatementReading as reading;
-ghost use Rattle.sa_parser.specs.Reads.{Reads};
+ghost use Rattle.sa_parser.specs.inner.StatementReading as reading;
+ghost use Rattle.sa_parser.specs.inner.Reads.{Reads};
 
 use crate::cursor::Cursor;
 use crate::fault::ReadFault;
@@ -9,7 +9,7 @@ use crate::statement::plan::format;
 use sa_ast::{AskKind, Statement};
 
 /// What is asked of another session.
-#[tactic(auto, unfolding(crate::specs::StatementReading::ask_kind, crate::specs::Reading::either, crate::specs::Reading::made))]
+#[tactic(auto, unfolding(crate::specs::inner::StatementReading::ask_kind, crate::specs::inner::Reading::either, crate::specs::inner::Reading::made))]
 fn ask_kind(cursor: &mut Cursor<'_>) -> Result<AskKind, ReadFault>
     ensures { Reads (reading.ask_kind cursor.old) result cursor.new }
 {
@@ -23,7 +23,7 @@ fn ask_kind(cursor: &mut Cursor<'_>) -> Result<AskKind, ReadFault>
 }
 
 /// `SHOW EXPLAIN` or `SHOW ANALYZE`, and the id of the other session.
-#[tactic(auto, unfolding(crate::specs::StatementReading::show, crate::specs::Reading::made, crate::specs::Reading::then_read))]
+#[tactic(auto, unfolding(crate::specs::inner::StatementReading::show, crate::specs::inner::Reading::made, crate::specs::inner::Reading::then_read))]
 pub(crate) fn show(cursor: &mut Cursor<'_>) -> Result<Statement, ReadFault>
     ensures { Reads (reading.show cursor.old) result cursor.new }
 {

@@ -1,5 +1,5 @@
-ghost use Rattle.sa_parser.specs.StatementReading as reading;
-ghost use Rattle.sa_parser.specs.Reads.{Reads};
+ghost use Rattle.sa_parser.specs.inner.StatementReading as reading;
+ghost use Rattle.sa_parser.specs.inner.Reads.{Reads};
 
 use crate::cursor::Cursor;
 use crate::fault::ReadFault;
@@ -7,7 +7,7 @@ use sa_ast::Statement;
 use sa_lexer::Sign;
 
 /// The query for the last trace of the session.
-#[tactic(auto, unfolding(crate::specs::StatementReading::trace_rows, crate::specs::Reading::made, crate::specs::Reading::then_read))]
+#[tactic(auto, unfolding(crate::specs::inner::StatementReading::trace_rows, crate::specs::inner::Reading::made, crate::specs::inner::Reading::then_read))]
 pub(crate) fn trace_rows(cursor: &mut Cursor<'_>) -> Result<Statement, ReadFault>
     ensures { Reads (reading.trace_rows cursor.old) result cursor.new }
 {

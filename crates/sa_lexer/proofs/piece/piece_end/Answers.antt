@@ -4,6 +4,7 @@ use Rattle.std.proofs.lemmas.Str.{IsCharBoundary-after_ascii}
 use Rattle.std.proofs.lemmas.Result.{err_from_is_err_and}
 use Rattle.sa_lexer.specs.Piece.{piece_end_at}
 use Rattle.sa_lexer.proofs.Ends.{starts, found, goes_on, fails, ends}
+use Rattle.sa_lexer.proofs.FaultyLemmas.{piece_told}
 use Rattle.sa_lexer.proofs.Pieces.{ends_piece}
 use Rattle.sa_lexer.proofs.piece.piece_end.Goals as goal
 
@@ -31,6 +32,11 @@ returns-in_err-place-clause-exact c =
     let p = err_from_is_err_and c.from_residual.result c.from_residual.ensures.1 in
     let read = rw take_rest at c.in_err-place.ensures.exact in
     rw (p.1, p.2, ← c.as_bytes-bytes.ensures.value) (fails c.in_err-place.field-0.0 c.as_bytes-bytes.result.now c.loop-place.place (piece_end_at c.args.from c.as_bytes-bytes.result.now) c.loop-place-test.true c.if-bytes-place-eq59.false read c.loop-place.invariant.same)
+
+pub returns-in_err-place-clause-faulty : goal.returns-in_err-place-clause-faulty
+returns-in_err-place-clause-faulty c =
+    let p = err_from_is_err_and c.from_residual.result c.from_residual.ensures.1 in
+    rw p.1 (piece_told c.args.from c.args.text.now p.0 c.requires.0 (rw p.1 at (returns-in_err-place-clause-exact c)))
 
 pub returns-in_err-place-clause-open_alone : goal.returns-in_err-place-clause-open_alone
 returns-in_err-place-clause-open_alone c =

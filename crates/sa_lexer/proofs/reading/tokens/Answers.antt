@@ -5,6 +5,7 @@ use Rattle.std.proofs.lemmas.Result.{err_from_is_err_and}
 use Rattle.sa_lexer.specs.declared.token.Token.{Token}
 use Rattle.sa_lexer.specs.Fault.{Fault, Gives}
 use Rattle.sa_lexer.specs.Tokens.{token_of, tokens_of}
+use Rattle.sa_lexer.proofs.FaultyLemmas.{text_told}
 use Rattle.sa_lexer.proofs.Laws.{are_tokens, all_rise, all_spelled}
 use Rattle.sa_lexer.proofs.Steps.{goes_on, ends, is_done}
 use Rattle.sa_lexer.proofs.Unique.{only_reading}
@@ -20,6 +21,11 @@ returns-in_err-kind-clause-exact c =
 pub returns-in_err-kind-clause-only : goal.returns-in_err-kind-clause-only
 returns-in_err-kind-clause-only c = λ tokens h.
     subst (λ (read : Result (List Token) Fault). Gives c.from_residual.result read) (only_reading c.args.text.now tokens h) (returns-in_err-kind-clause-exact c)
+
+pub returns-in_err-kind-clause-faulty : goal.returns-in_err-kind-clause-faulty
+returns-in_err-kind-clause-faulty c =
+    let p = err_from_is_err_and c.from_residual.result c.from_residual.ensures.1 in
+    rw p.1 (text_told c.args.text.now p.0 (rw p.1 at (returns-in_err-kind-clause-exact c)))
 
 pub loop-rest-preserved : goal.loop-rest-preserved
 loop-rest-preserved c =

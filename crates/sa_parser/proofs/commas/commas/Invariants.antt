@@ -1,7 +1,7 @@
 -- The parts that are left are read in the turns that are left.
 use Rattle.std.proofs.Common.{◌≡◌, ◌-◌, [], ◌∷◌, ◌++◌}
 use Rattle.sa_lexer.specs.declared.sign.Sign.TheVariants as signs
-use Rattle.sa_parser.specs.Reading.{commas, more, sees_sign, sign, ◌<$>◌, ◌<*>◌}
+use Rattle.sa_parser.specs.inner.Reading.{commas, more, sees_sign, sign, ◌<$>◌, ◌<*>◌}
 use Rattle.sa_parser.proofs.commas.commas.Given as goal
 
 abbrev pub invariant-loop-turn : goal.invariant-loop-turn

@@ -4,7 +4,7 @@ use Rattle.sa_lexer.specs.declared.sign.Sign.TheVariants as signs
 use Rattle.sa_lexer.specs.declared.token.TokenKind.TheVariants as kinds
 use Rattle.sa_lexer.specs.declared.token.TokenKind.TheVariants.{Word}
 use Rattle.sa_parser.specs.Fault.{AsksForMore}
-use Rattle.sa_parser.specs.Grammar.{form_of}
+use Rattle.sa_parser.specs.inner.Grammar.{form_of}
 use Rattle.sa_parser.proofs.Asking.{word-listed, word-other}
 use Rattle.sa_parser.proofs.kind.is_unsupported.Goals as goal
 

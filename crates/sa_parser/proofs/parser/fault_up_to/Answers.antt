@@ -1,6 +1,6 @@
 use Rattle.std.proofs.Common.{Err, ◌∙◌, sym, inl, inr}
 use Rattle.std.proofs.lemmas.Result.{IfOk-weaker}
-use Rattle.sa_parser.specs.Grammar.{form_of}
+use Rattle.sa_parser.specs.inner.Grammar.{form_of}
 use Rattle.sa_parser.specs.Parse.{IsAnswer}
 use Rattle.sa_parser.proofs.Answering.{IsJudgedFrom, deep-begun, deep-faulty}
 use Rattle.sa_parser.proofs.parser.fault_up_to.Goals as goal

@@ -2,7 +2,7 @@
 use Rattle.std.proofs.Common.{ℕ, false, codes, [], ◌∷◌, refl}
 use Rattle.sa_lexer.specs.declared.sign.Sign.TheVariants as signs
 use Rattle.sa_parser.specs.SetupGrammar.{Attribute, Column}
-use Rattle.sa_parser.specs.SetupReading.{option, column, sees_option}
+use Rattle.sa_parser.specs.inner.SetupReading.{option, column, sees_option}
 use Rattle.sa_parser.proofs.Heads.{Heads, only_names, only_word, apart, within}
 use Rattle.sa_parser.proofs.Law.{Shape}
 use Rattle.sa_parser.proofs.Looks.{Looks, or-Looks, sees_word-Looks}

@@ -1,10 +1,10 @@
 -- CREATE TABLE.
 use Rattle.std.proofs.Common.{ℕ, true, false, codes, [], ◌∷◌, refl}
 use Rattle.sa_lexer.specs.declared.sign.Sign.TheVariants as signs
-use Rattle.sa_print.specs.Reserved.{is_reserved}
+use Rattle.sa_lexer.specs.Reserved.{is_reserved}
 use Rattle.sa_parser.specs.Form.{Either}
 use Rattle.sa_parser.specs.SetupGrammar.{Column, Key, Definition, Create}
-use Rattle.sa_parser.specs.SetupReading.{part, definition, engine, create}
+use Rattle.sa_parser.specs.inner.SetupReading.{part, definition, engine, create}
 use Rattle.sa_parser.proofs.Heads.{only_word, apart, within}
 use Rattle.sa_parser.proofs.Law.{Shape}
 use Rattle.sa_parser.proofs.Looks.{sees_word-Looks, sees_sign-Looks, sees_name-Looks}

@@ -2,7 +2,7 @@
 use Rattle.std.proofs.Common.{ℕ, false, codes, refl}
 use Rattle.sa_lexer.specs.declared.sign.Sign.TheVariants as signs
 use Rattle.sa_parser.specs.SetupGrammar.{Tuple, Insert}
-use Rattle.sa_parser.specs.SetupReading.{tuple, insert}
+use Rattle.sa_parser.specs.inner.SetupReading.{tuple, insert}
 use Rattle.sa_parser.proofs.Heads.{only_word, only_sign, apart, within}
 use Rattle.sa_parser.proofs.Law.{Shape}
 use Rattle.sa_parser.proofs.Looks.{sees_sign-Looks}

@@ -1,8 +1,8 @@
 -- A key of a table that is set up.
 use Rattle.std.proofs.Common.{ℕ, false, codes, [], ◌∷◌, refl}
-use Rattle.sa_print.specs.Reserved.{is_reserved}
+use Rattle.sa_lexer.specs.Reserved.{is_reserved}
 use Rattle.sa_parser.specs.SetupGrammar.{NameText, Columns, KeyWord, Key}
-use Rattle.sa_parser.specs.SetupReading.{name_text, columns, key_word, key_part, sees_key_word}
+use Rattle.sa_parser.specs.inner.SetupReading.{name_text, columns, key_word, key_part, sees_key_word}
 use Rattle.sa_parser.proofs.Heads.{Heads, only_names, apart, within}
 use Rattle.sa_parser.proofs.Looks.{Looks, or-Looks, sees_word-Looks, sees_name-Looks}
 use Rattle.sa_parser.proofs.laws.One.{one_shape}

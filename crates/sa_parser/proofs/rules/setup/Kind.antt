@@ -2,7 +2,7 @@
 use Rattle.std.proofs.Common.{ℕ, ◌^◌, true, false, codes, [], ◌∷◌, refl}
 use Rattle.sa_lexer.specs.declared.sign.Sign.TheVariants as signs
 use Rattle.sa_parser.specs.SetupGrammar.{Digits, Kind}
-use Rattle.sa_parser.specs.SetupReading.{digits, kind, sees_int}
+use Rattle.sa_parser.specs.inner.SetupReading.{digits, kind, sees_int}
 use Rattle.sa_parser.proofs.Heads.{or, only_word, only_sign, apart, within}
 use Rattle.sa_parser.proofs.Law.{Shape}
 use Rattle.sa_parser.proofs.Looks.{Looks, or-Looks, sees_word-Looks, sees_sign-Looks}

@@ -7,11 +7,11 @@ use Rattle.sa_lexer.specs.declared.token.TokenKind.TheVariants as kinds
 use Rattle.sa_value.specs.declared.value.Value.{Value}
 use Rattle.sa_value.specs.declared.value.Value.TheVariants as value_of
 use Rattle.sa_parser.specs.Form.{One}
-use Rattle.sa_parser.specs.Reading.{one}
+use Rattle.sa_parser.specs.inner.Reading.{one}
 use Rattle.sa_parser.specs.Token.{is_word}
 use Rattle.sa_parser.specs.SetupTree.{literal_of, literal_in}
 use Rattle.sa_parser.specs.SetupGrammar.{Literal}
-use Rattle.sa_parser.specs.SetupReading.{literal}
+use Rattle.sa_parser.specs.inner.SetupReading.{literal}
 use Rattle.sa_parser.proofs.Heads.{Heads, has, apart, within}
 use Rattle.sa_parser.proofs.Looks.{sees_sign-Looks}
 use Rattle.sa_parser.proofs.laws.One.{one_shape, one-Law}

@@ -2,7 +2,7 @@
 use Rattle.std.proofs.Common.{ℕ, false, codes, [], ◌∷◌, refl}
 use Rattle.sa_lexer.specs.declared.sign.Sign.TheVariants as signs
 use Rattle.sa_parser.specs.SetupGrammar.{setup}
-use Rattle.sa_parser.specs.SetupReading.{setup_read}
+use Rattle.sa_parser.specs.inner.SetupReading.{setup_read}
 use Rattle.sa_parser.proofs.Heads.{apart, within}
 use Rattle.sa_parser.proofs.Law.{Shape}
 use Rattle.sa_parser.proofs.Looks.{sees_word-Looks}

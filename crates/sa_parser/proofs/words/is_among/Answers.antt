@@ -4,7 +4,7 @@ use Rattle.std.proofs.lemmas.List.{take_all}
 use Rattle.std.proofs.lemmas.List.Folds.{list_any_at, list_any_more}
 use Rattle.sa_lexer.specs.declared.token.TokenKind.{TokenKind}
 use Rattle.sa_parser.specs.Token.{is_word}
-use Rattle.sa_parser.proofs.Lists.{list_any-map}
+use Rattle.sa_lexer.proofs.Lists.{list_any-map}
 use Rattle.sa_parser.proofs.words.is_among.Goals as goal
 
 -- what stands for a word past the end

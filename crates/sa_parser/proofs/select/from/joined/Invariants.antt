@@ -1,9 +1,9 @@
 -- The joined tables that are left are read in the turns that are left.
 use Rattle.std.proofs.Common.{◌≡◌, ◌-◌, [], ◌∷◌, ◌++◌, codes}
 use Rattle.sa_parser.specs.declared.rule.Rule.TheVariants as rules
-use Rattle.sa_parser.specs.ExprReading.{nested_read}
-use Rattle.sa_parser.specs.Reading.{more, perhaps, after, sees_word, ◌<$>◌, ◌<*>◌}
-use Rattle.sa_parser.specs.SelectReading.{joined, join, table, sees_join}
+use Rattle.sa_parser.specs.inner.ExprReading.{nested_read}
+use Rattle.sa_parser.specs.inner.Reading.{more, perhaps, after, sees_word, ◌<$>◌, ◌<*>◌}
+use Rattle.sa_parser.specs.inner.SelectReading.{joined, join, table, sees_join}
 use Rattle.sa_parser.specs.SelectTree.{joined_table}
 use Rattle.sa_parser.proofs.select.from.joined.Given as goal
 

@@ -2,9 +2,9 @@
 use Rattle.std.proofs.Common.{◌≡◌, ◌-◌, ◌++◌}
 use Rattle.sa_lexer.specs.declared.sign.Sign.TheVariants as signs
 use Rattle.sa_parser.specs.declared.rule.Rule.TheVariants as rules
-use Rattle.sa_parser.specs.ExprReading.{nested_read}
-use Rattle.sa_parser.specs.Reading.{more, sees_sign, sign, ◌<$>◌, ◌<*>◌}
-use Rattle.sa_parser.specs.SelectReading.{joined, tables}
+use Rattle.sa_parser.specs.inner.ExprReading.{nested_read}
+use Rattle.sa_parser.specs.inner.Reading.{more, sees_sign, sign, ◌<$>◌, ◌<*>◌}
+use Rattle.sa_parser.specs.inner.SelectReading.{joined, tables}
 use Rattle.sa_parser.proofs.select.from.tables.Given as goal
 
 abbrev pub invariant-loop-turn : goal.invariant-loop-turn

@@ -1,8 +1,8 @@
 -- The options that are left are read in the turns that are left.
 use Rattle.std.proofs.Common.{◌≡◌, ◌-◌}
-use Rattle.sa_parser.specs.Reading.{more}
+use Rattle.sa_parser.specs.inner.Reading.{more}
 use Rattle.sa_parser.specs.SetupTree.{with_option}
-use Rattle.sa_parser.specs.SetupReading.{column, option, sees_option}
+use Rattle.sa_parser.specs.inner.SetupReading.{column, option, sees_option}
 use Rattle.sa_parser.proofs.setup.column.column.Given as goal
 
 abbrev pub invariant-loop-turn : goal.invariant-loop-turn

@@ -1,7 +1,7 @@
 -- What ENGINE says is read in the turns that are left.
 use Rattle.std.proofs.Common.{◌≡◌, ◌-◌, codes}
-use Rattle.sa_parser.specs.Reading.{more, sees_word}
-use Rattle.sa_parser.specs.SetupReading.{create, engine}
+use Rattle.sa_parser.specs.inner.Reading.{more, sees_word}
+use Rattle.sa_parser.specs.inner.SetupReading.{create, engine}
 use Rattle.sa_parser.proofs.setup.create.create.Given as goal
 
 abbrev pub invariant-loop-turn : goal.invariant-loop-turn

@@ -1,8 +1,8 @@
 -- The values that are left are read in the turns that are left.
 use Rattle.std.proofs.Common.{◌≡◌, ◌-◌, [], ◌∷◌, ◌++◌}
 use Rattle.sa_lexer.specs.declared.sign.Sign.TheVariants as signs
-use Rattle.sa_parser.specs.Reading.{commas, more, sees_sign, sign, ◌<$>◌, ◌<*>◌}
-use Rattle.sa_parser.specs.SetupReading.{literal}
+use Rattle.sa_parser.specs.inner.Reading.{commas, more, sees_sign, sign, ◌<$>◌, ◌<*>◌}
+use Rattle.sa_parser.specs.inner.SetupReading.{literal}
 use Rattle.sa_parser.proofs.setup.literal.literals.Given as goal
 
 abbrev pub invariant-loop-turn : goal.invariant-loop-turn

@@ -1,0 +1,11 @@
+pub mod Reading
+pub mod Reads
+pub mod ExprReading
+pub mod SelectReading
+pub mod StatementReading
+pub mod SetupReading
+pub mod DirectiveReading
+pub mod Grammar
+pub mod Judgement
+pub mod Answer
+pub mod Levels
