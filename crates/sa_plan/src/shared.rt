@@ -15,7 +15,6 @@ pub struct SharedPlan {
 impl Model for SharedPlan {
     ghost use Rattle.std.specs.Arc.{arc_value};
     ghost use Rattle.sa_plan.specs.declared.plan.Plan.{Plan as plan_value};
-
     ghost use Rattle.std.specs.Coded.{codes};
     ghost use Rattle.sa_cond.specs.contracts.cond.Cond as cond;
     ghost use Rattle.sa_cond.specs.contracts.expr.Expr as expr;
