@@ -2,3 +2,4 @@ pub mod Answer
 pub mod Chosen
 pub mod Scan
 pub mod Lawful
+pub mod Names

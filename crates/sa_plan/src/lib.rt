@@ -3,11 +3,13 @@
 //! The executor runs a plan, the session machine shows it, and the worker asks a `Preparer` for it.
 #![tactic(auto)]
 
+mod names;
 mod plan;
 mod prepared;
 mod preparer;
 mod shared;
 
+pub use names::{Names, TableNames};
 pub use plan::{Access, Level, Levels, Plan, Planned};
 pub use prepared::{Prepared, Work};
 pub use preparer::Preparer;
