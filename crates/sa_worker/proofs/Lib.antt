@@ -1,1 +1,4 @@
+pub mod Entries
+pub mod Course
 pub mod May
+pub mod keeps

@@ -1,2 +1,5 @@
 pub mod View
+pub mod Next
+pub mod Works
+pub mod Holds
 pub mod Keeps

@@ -1,0 +1,17 @@
+pub mod Moves
+pub mod Goes
+pub mod Stands
+pub mod Places
+pub mod Begin
+pub mod Close
+pub mod End
+pub mod Ask
+pub mod Poll
+pub mod Withdraw
+pub mod Kill
+pub mod Look
+pub mod LookOwn
+pub mod Point
+pub mod Others
+pub mod Turn
+pub mod Works
