@@ -13,3 +13,4 @@ pub mod law
 pub mod program
 pub mod Plain
 pub mod inner
+pub mod Legal

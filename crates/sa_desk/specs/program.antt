@@ -1,4 +1,5 @@
 pub mod Course
+pub mod Prepares
 pub mod Between
 pub mod RunEnds
 pub mod Statement

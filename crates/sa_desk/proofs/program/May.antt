@@ -1,13 +1,11 @@
 -- What a session's own entries say of a desk that it meets is enough for its calls there.
-use Rattle.std.proofs.Common.{◌≡◌, ◌≢◌, ℕ, ◌+◌, ◌-◌, ◌≤◌, ◌==◌, if◌then◌else◌, Bool, true, false, List, [], ◌∷◌, ◌++◌, length, map, slice_index, Option, Some, None, refl, sym, subst, ap, ◌∙◌, arith}
-use Rattle.std.specs.Prelude.{⊤}
+use Rattle.std.proofs.Common.{◌≡◌, ℕ, ◌+◌, ◌-◌, ◌≤◌, ◌==◌, if◌then◌else◌, Bool, true, false, List, [], ◌∷◌, ◌++◌, length, map, slice_index, Option, Some, None, refl, sym, subst, ap, ◌∙◌, arith}
 use Rattle.std.proofs.lemmas.Grind.{common_steps}
 use Rattle.std.proofs.lemmas.Bool.{eq-eqb}
 use Rattle.sa_ast.specs.declared.kind.AskKind.{AskKind}
 use Rattle.sa_ast.specs.declared.kind.KillKind.{KillKind}
 use Rattle.sa_plan.specs.declared.plan.Plan.{Plan}
 use Rattle.sa_meaning.specs.Data.{RunData}
-use Rattle.sa_meaning.specs.Progress.{Progress}
 use Rattle.sa_desk.specs.declared.answer.Asked.{Asked}
 use Rattle.sa_desk.specs.declared.answer.Asked.TheVariants as asked
 use Rattle.sa_desk.specs.declared.answer.Killed.{Killed}

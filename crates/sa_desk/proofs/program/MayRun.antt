@@ -1,5 +1,5 @@
 -- What a session's own entries say of its desk is enough for a point, and for the end of a run.
-use Rattle.std.proofs.Common.{◌≡◌, ℕ, ◌+◌, ◌-◌, ◌*◌, ◌/◌, ◌<◌, ◌≤◌, ◌==◌, if◌then◌else◌, true, List, [], ◌∷◌, ◌++◌, length, slice_index, Option, Some, None, refl, sym, subst, ap, ap₂, ◌∙◌, arith}
+use Rattle.std.proofs.Common.{◌≡◌, ℕ, ◌+◌, ◌-◌, ◌*◌, ◌/◌, ◌≤◌, ◌==◌, if◌then◌else◌, true, [], ◌∷◌, ◌++◌, length, slice_index, Some, refl, sym, subst, ap, ◌∙◌, arith}
 use Rattle.std.specs.Prelude.{IfSome}
 use Rattle.std.proofs.Math.Nat.{mul-div_cancel}
 use Rattle.std.proofs.lemmas.Bool.{eq-eqb}
@@ -18,7 +18,7 @@ use Rattle.sa_desk.specs.Contents.{Contents, phase, later}
 use Rattle.sa_desk.specs.Serving.{served_entries, report_of, IsRunOf, begin_turn, is_killed}
 use Rattle.sa_desk.specs.World.{World, standing_on, next_stamp}
 use Rattle.sa_desk.specs.Own.{free, running, outline, own_from}
-use Rattle.sa_desk.specs.call.End.{MayEnd, Fits, IsOn, IsGivenRun, IsTimely, run_of, outcome_of, steps_of, end_entry, end_entries}
+use Rattle.sa_desk.specs.call.End.{MayEnd, Fits, IsOn, IsGivenRun, IsTimely, run_of, outcome_of, end_entry, end_entries}
 use Rattle.sa_desk.specs.call.Point.{MayPoint}
 use Rattle.sa_desk.specs.program.Turn.{itself}
 use Rattle.sa_desk.proofs.Append.{charge-append}
