@@ -1,13 +1,16 @@
 -- What a statement does asks no more of a worker than a sound answer of preparation gives.
 use Rattle.std.proofs.Common.{◌≡◌, ℕ, ◌+◌, ◌&&◌, Bool, true, false, if◌then◌else◌, refl, subst, arith}
-use Rattle.std.specs.Prelude.{nat_lt, List, Some}
+use Rattle.std.specs.Prelude.{⊤, nat_lt, List, Some}
 use Rattle.std.proofs.lemmas.Bool.Decides.{nat_tests}
 use Rattle.sa_ast.specs.declared.kind.AskKind.{AskKind}
 use Rattle.sa_plan.specs.declared.plan.Planned.{Planned}
 use Rattle.sa_plan.specs.declared.prepared.Work.TheVariants as work
+use Rattle.sa_desk.specs.declared.entry.Entry.{Entry}
+use Rattle.sa_desk.specs.declared.entry.Event.TheVariants.{End}
 use Rattle.sa_desk.specs.declared.outcome.Outcome.{Outcome}
 use Rattle.sa_desk.specs.declared.outcome.Outcome.TheVariants as outcome
 use Rattle.sa_desk.specs.program.Course.{Given, Answer, prepared, refused, starved, Settings, trace, settings_after, Course, says, shows, waits, kills, runs, toward, course_of}
+use Rattle.sa_desk.specs.program.SoFar.{IsTold}
 use Rattle.sa_worker.specs.View.{View}
 use Rattle.sa_worker.specs.Holds.{CanRun, IsLimit, IsSoundAnswer}
 use Rattle.sa_worker.specs.Keeps.{IsSession}
@@ -76,3 +79,28 @@ limit_after given settings (prepared text (work.Wait id at)) result limit sound 
 limit_after given settings (prepared text (work.Kill kind id)) result limit sound = limit
 limit_after given settings (refused why) result limit sound = limit
 limit_after given settings (starved text) result limit sound = limit
+
+-- What a statement says at once tells nothing of another desk.
+abbrev pub SaysNothing : Given → Course → Type 0
+SaysNothing given (says result) = (journals : ℕ → List Entry) (number : ℕ) → IsTold given journals (End number result 0)
+SaysNothing given course = ⊤
+
+toward_says : (given : Given) (id : ℕ) (course : Course) → SaysNothing given course → SaysNothing given (toward given id course)
+toward_says given id course nothing = go (nat_lt 0 id && nat_lt id (given.sessions + 1))
+  where
+    go : (inside : Bool) → SaysNothing given (if inside then course else says outcome.NoSuchThread)
+    go true = nothing
+    go false = λ journals number. tt
+
+pub course_says : (given : Given) (settings : Settings) (answer : Answer) → SaysNothing given (course_of given settings answer)
+course_says given settings (refused why) = λ journals number. tt
+course_says given settings (starved text) = λ journals number. tt
+course_says given settings (prepared text (work.Explain planned)) = λ journals number. tt
+course_says given settings (prepared text (work.SetTrace on)) = λ journals number. tt
+course_says given settings (prepared text (work.SetLimit limit)) = λ journals number. tt
+course_says given settings (prepared text work.TraceRows) = λ journals number. tt
+course_says given settings (prepared text (work.Show kind id)) = toward_says given id (shows kind id) tt
+course_says given settings (prepared text (work.Wait id at)) = toward_says given id (waits id at) tt
+course_says given settings (prepared text (work.Kill kind id)) = toward_says given id (kills kind id) tt
+course_says given settings (prepared text (work.Select planned)) = tt
+course_says given settings (prepared text (work.Analyze planned)) = tt

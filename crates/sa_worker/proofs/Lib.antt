@@ -1,4 +1,6 @@
 pub mod Entries
 pub mod Course
+pub mod Turns
 pub mod May
 pub mod keeps
+pub mod follows

@@ -15,3 +15,4 @@ pub mod Point
 pub mod Others
 pub mod Turn
 pub mod Works
+pub mod First

@@ -18,7 +18,7 @@ use Rattle.sa_desk.specs.call.Look.{looks_of}
 use Rattle.sa_desk.specs.program.Course.{Given, course_of}
 use Rattle.sa_desk.specs.program.SoFar.{terms_of}
 use Rattle.sa_desk.specs.program.Turn.{itself}
-use Rattle.sa_worker.specs.View.{View, Stage, makes_steps, opens, ends, polls, looks_asking, withdraws, waits, looks_waiting, points, ends_run, plan_in, desk_at, outline_at, request_at, owed}
+use Rattle.sa_worker.specs.View.{View, Stage, makes_steps, opens, ends, polls, looks_asking, withdraws, waits, looks_waiting, points, ends_run, plan_in, desk_at, outline_at, request_at, aimed, owed}
 use Rattle.sa_worker.specs.Holds.{HoldsAt}
 
 -- A kill of the session's statement was seen: it stands after entries which the session has seen, and after which it has made none on
@@ -96,3 +96,12 @@ pub record KeepsAt (world : World) (view : View) (stage : Stage) : Type 0 where
 
 abbrev pub Keeps : World → View → Type 0
 Keeps world view = KeepsAt world view view.stage
+
+-- The desks suit a worker: they have its terms, and its session a share of each that is enough, by how many statements it has.
+pub record Suits (world : World) (given : Given) : Type 0 where
+  pub terms : (desk : ℕ) → IsSession given desk → world.terms desk ≡ terms_of given desk
+  pub shares : (desk : ℕ) → IsSession given desk → length (world.shares desk) ≡ given.sessions
+  -- 3 for each statement, and on its own desk 2 more for each and 1 for the Close
+  pub room : (desk : ℕ) → IsSession given desk →
+      3 * length given.texts + aimed given.session desk (2 * length given.texts + 1)
+      ≤ slice_index (world.shares desk) (given.session - 1)

@@ -3,3 +3,4 @@ pub mod Next
 pub mod Works
 pub mod Holds
 pub mod Keeps
+pub mod Follows

@@ -1,7 +1,6 @@
 -- A worker still knows what it has to after its statement ended.
-use Rattle.std.proofs.Common.{◌≡◌, ℕ, ◌+◌, ◌-◌, ◌*◌, ◌<◌, ◌≤◌, if◌then◌else◌, List, [], ◌∷◌, length, inl, inr, refl, subst, ◌∙◌, arith}
+use Rattle.std.proofs.Common.{◌≡◌, ℕ, ◌+◌, ◌-◌, ◌*◌, ◌<◌, ◌≤◌, if◌then◌else◌, List, [], ◌∷◌, length, refl, subst, ◌∙◌, arith}
 use Rattle.std.specs.Prelude.{Option, Some, None, IfSome}
-use Rattle.std.proofs.Math.Nat.{le-mul_of_pos_right}
 use Rattle.sa_plan.specs.declared.plan.Planned.{Planned}
 use Rattle.sa_meaning.specs.Progress.{Progress}
 use Rattle.sa_desk.specs.declared.answer.Ended.{Ended}
@@ -29,6 +28,7 @@ use Rattle.sa_worker.specs.Next.{shown, after_end}
 use Rattle.sa_worker.specs.Holds.{longest, IsOn}
 use Rattle.sa_worker.specs.Keeps.{past, KeepsAt, Keeps}
 use Rattle.sa_worker.proofs.Course.{limit_after}
+use Rattle.sa_worker.proofs.Turns.{points_most}
 use Rattle.sa_worker.proofs.keeps.Moves.{Keeps-leads}
 use Rattle.sa_worker.proofs.keeps.Goes.{aimed-at, aimed-less, waiting_same}
 
@@ -58,10 +58,6 @@ module _ (desk : Contents) (stamp : Stamp) (number : ℕ) (given : Outcome) wher
       let none = charge-served stamp.actor desk (report_of run) stamp queue in
       let both = charge-append stamp.actor (served_with desk (report_of run) stamp queue) (end_entry desk stamp number (Some run) given ∷ []) in
       let one = one_end (Some run) in omega (arith, none, both, one)
-
--- Fewer points than a run may make steps were made.
-few_points : (made quantum limit : ℕ) → 1 ≤ quantum → made * quantum ≤ limit → made ≤ limit
-few_points made quantum limit least most = let fewer = le-mul_of_pos_right made least in omega (arith, fewer, most)
 
 module _ (world later : World) (view : View) where
   abbrev session : ℕ
@@ -159,11 +155,7 @@ module _ (world later : World) (view : View) where
       → Keeps later (after_end view (outcome_of itself given) (end_answer (is_killed (phase desk))))
   Keeps-end_run planned made run given keeps call =
       let limit = keeps.holds.limit.1 in
-      let least = keeps.holds.given.least_quantum in
-      let points : made ≤ view.settings.limit = elim keeps.holds.holds.0.runs_on [
-        | inl none ↦ omega (arith, none)
-        | inr on ↦ few_points made view.given.quantum view.settings.limit least on.1.0
-      ] in
+      let points = points_most view planned made keeps.holds.given keeps.holds.holds.0 in
       ended-as (ends_run planned made run given) keeps (run_of itself given) (outcome_of itself given) refl (record {
         requests = λ at. refl;
         owes_later = refl;

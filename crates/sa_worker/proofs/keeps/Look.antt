@@ -63,7 +63,7 @@ module _ (world later : World) (view : View) (i at count : ℕ) (keeps : KeepsAt
   left_for answer =
       record (with_entries (entries_for answer) desk) { waits = slice_set desk.waits (view.given.session - 1) (wait_after answer view.number at before) }
 
-  looked_before : Meets world i view.given.session → before ≡ count
+  pub looked_before : Meets world i view.given.session → before ≡ count
   looked_before met = ap (λ wait. looks_of wait view.number at) (wait_is world view (waits i at count) keeps i keeps.aimed met) ∙ keeps.knows
 
   -- the wait that the call leaves

@@ -80,7 +80,7 @@ module _ (world later : World) (view : View) (plan : Planned) (made : ℕ) (run 
     published_is = ap (λ quiet. quiet.published) call.counted_is ∙ rw (eq-eqb session desk.terms.desk (sym call.met.number)) steps_are
 
     -- one point more is made
-    running : (next : Stage) → IsRunning (goes_to view next) plan (made + 1)
+    pub running : (next : Stage) → IsRunning (goes_to view next) plan (made + 1)
     running next =
         let was = keeps.holds.holds.0 in
         let more : (made + 1) * quantum < length (items plan.plan view.given.tables) = subst (λ steps. steps < length (items plan.plan view.given.tables)) steps_are keeps.holds.holds.2 in

@@ -1,0 +1,17 @@
+pub mod Moves
+pub mod Kill
+pub mod Ask
+pub mod Answered
+pub mod Asking
+pub mod Poll
+pub mod Withdraw
+pub mod LookOwn
+pub mod Look
+pub mod Point
+pub mod Close
+pub mod Begin
+pub mod RunEnds
+pub mod End
+pub mod SoFar
+pub mod Works
+pub mod Turn
