@@ -4,3 +4,4 @@ pub mod Turns
 pub mod May
 pub mod keeps
 pub mod follows
+pub mod working

@@ -4,3 +4,4 @@ pub mod Works
 pub mod Holds
 pub mod Keeps
 pub mod Follows
+pub mod Working

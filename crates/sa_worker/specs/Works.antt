@@ -1,11 +1,6 @@
 -- What the private work before a turn's call does.
-use Rattle.std.specs.Prelude.{◌≡◌, ℕ, ◌+◌, ◌<◌, ◌≤◌, ◌⊎◌, Bool, true, false, List, length}
-use Rattle.std.specs.declared.result.Result.{Result}
-use Rattle.std.specs.declared.result.Result.TheVariants.{Ok, Err}
-use Rattle.sa_query.specs.declared.refusal.Refusal.{Refusal}
+use Rattle.std.specs.Prelude.{◌≡◌, ℕ, ◌+◌, ◌<◌, ◌≤◌, Bool, true, false, length}
 use Rattle.sa_plan.specs.declared.plan.Planned.{Planned}
-use Rattle.sa_plan.specs.declared.prepared.Prepared.{Prepared}
-use Rattle.sa_plan.specs.declared.prepared.Work.{Work}
 use Rattle.sa_meaning.specs.Items.{items}
 use Rattle.sa_meaning.specs.Output.{kept}
 use Rattle.sa_meaning.specs.Progress.{Progress, IsFinished, EmitsAt}
@@ -13,19 +8,10 @@ use Rattle.sa_desk.specs.declared.outcome.Finish.{Finish}
 use Rattle.sa_desk.specs.declared.outcome.Finish.TheVariants.{Rows, Analyzed, Broken}
 use Rattle.sa_desk.specs.declared.outcome.StepStop.{StepStop}
 use Rattle.sa_desk.specs.declared.outcome.StepStop.TheVariants.{RowLimit, TooManyRows, OutOfMemory, Killed}
-use Rattle.sa_desk.specs.program.Course.{Given, Answer, prepared, refused, starved, names_of, runs, course_of}
+use Rattle.sa_desk.specs.program.Course.{Given, Answer, names_of, runs, course_of}
+use Rattle.sa_desk.specs.program.Prepares.{Answers, IsAnswer}
 use Rattle.sa_desk.specs.program.RunEnds.{most_rows, IsClear}
 use Rattle.sa_worker.specs.View.{Stage, prepares, makes_steps, opens, closes, points, ends_run, View, text_at}
-
--- the meaning of a preparer: which answers it may give to a text
-abbrev pub Answers : Type 1
-Answers = List ℕ → Result Prepared Refusal → Type 0
-
--- A text has this answer. Where memory ran out, the text that a Begin then shows is the source or that of an answer.
-abbrev pub IsAnswer : Answers → List ℕ → Answer → Type 0
-IsAnswer gives text (prepared canonical work) = gives text (Ok (record { text = canonical; work = work }))
-IsAnswer gives text (refused why) = gives text (Err why)
-IsAnswer gives text (starved said) = (said ≡ text) ⊎ (work : Work) × gives text (Ok (record { text = said; work = work }))
 
 -- The next statement is prepared. Where none is left the session closes.
 pub data Prepares (gives : Answers) (view later : View) : Type 0 where

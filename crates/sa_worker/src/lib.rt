@@ -4,6 +4,10 @@
 //! turn.
 #![tactic(auto)]
 
+mod law;
 mod turned;
 
+pub use law::{
+    entries_are_so_far, journals_are_legal, worker_calls, worker_prepares, workers_begin,
+};
 pub use turned::Turned;

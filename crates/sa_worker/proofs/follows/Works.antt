@@ -7,7 +7,8 @@ use Rattle.sa_desk.specs.declared.entry.Entry.{Entry}
 use Rattle.sa_desk.specs.program.Course.{Given, Answer, at_first}
 use Rattle.sa_desk.specs.program.SoFar.{IsTold}
 use Rattle.sa_worker.specs.View.{Stage, prepares, makes_steps, opens, closes, points, ends_run, View, first_view}
-use Rattle.sa_worker.specs.Works.{Answers, Prepares, is_prepared, is_last, Makes, goes_on, stops, WorksAt, Works}
+use Rattle.sa_desk.specs.program.Prepares.{Answers}
+use Rattle.sa_worker.specs.Works.{Prepares, is_prepared, is_last, Makes, goes_on, stops, WorksAt, Works}
 use Rattle.sa_worker.specs.Follows.{TailAt, FollowsAt, Follows}
 use Rattle.sa_worker.proofs.follows.Begin.{Statements-count}
 

@@ -15,7 +15,8 @@ use Rattle.sa_desk.specs.program.Course.{Given, Answer, Course, says, shows, wai
 use Rattle.sa_desk.specs.program.Turn.{itself}
 use Rattle.sa_worker.specs.View.{Stage, prepares, makes_steps, opens, closes, points, ends_run, View, text_at, left, plan_in, aimed}
 use Rattle.sa_worker.specs.Next.{looked_into}
-use Rattle.sa_worker.specs.Works.{Answers, IsAnswer, Prepares, is_prepared, is_last, Comes, Breaks, Stops, Makes, goes_on, stops, WorksAt, Works}
+use Rattle.sa_desk.specs.program.Prepares.{Answers, IsAnswer}
+use Rattle.sa_worker.specs.Works.{Prepares, is_prepared, is_last, Comes, Breaks, Stops, Makes, goes_on, stops, WorksAt, Works}
 use Rattle.sa_worker.specs.Holds.{IsRunning, IsSoundAnswer, run_at}
 use Rattle.sa_worker.specs.Keeps.{IsRunAt, FitsSeen, KeepsAt, Keeps}
 use Rattle.sa_worker.proofs.Course.{IsFair, course_fair}

@@ -1,0 +1,4 @@
+pub mod Fixed
+pub mod Given
+pub mod All
+pub mod Legal
