@@ -66,9 +66,9 @@ abbrev pub level_data : List TableNames → List Level → Level → Option Coun
 level_data names levels level counters =
     object (put (codes "table") (object (level_members names levels level counters)) no_members)
 
--- what a report counts of the level with this number
+-- what a report counts of the level with this index
 abbrev pub counters_at : Option Report → ℕ → Option Counters
-counters_at report number = option_and_then (λ (report : Report). slice_get report.tables number) report
+counters_at report index = option_and_then (λ (report : Report). slice_get report.tables.items index) report
 
 -- the members with what a run has counted in all
 abbrev pub with_steps : Option Report → Members → Members

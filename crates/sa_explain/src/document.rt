@@ -20,9 +20,14 @@ pub fn plan_json(alloc: Global, plan: &Plan, names: &Names) -> Result<Json, OutO
 
 /// The document of a plan of which a run has counted this. The names are those of its tables, and the
 /// report has counters for each of them.
-pub fn analyze_json(alloc: Global, plan: &Plan, report: &Report, names: &Names) -> Result<Json, OutOfMemory>
+pub fn analyze_json(
+    alloc: Global,
+    plan: &Plan,
+    report: &Report,
+    names: &Names,
+) -> Result<Json, OutOfMemory>
     requires names { AreNamesFor plan.now names.now }
-    requires counted { length report.now.tables ≡ length plan.now.levels }
+    requires counted { length report.now.tables.items ≡ length plan.now.levels }
     ensures document { IfOk result (λ json. view json ≡ document names.now plan.now (Some report.now)) }
     ensures exact { IfOk result (λ json. has_float (view json) ≡ false) }
 {
