@@ -1,7 +1,7 @@
-ghost use Rattle.std.specs.Prelude.{◌≡◌, ◌<◌, length, map, IfOk};
+ghost use Rattle.std.specs.Prelude.{◌≡◌, [], map, slice_index_or, IfOk};
 ghost use Rattle.sa_table.specs.declared.def.ColumnDef.{ColumnDef as column_def};
 ghost use Rattle.sa_table.specs.declared.def.KeyDef.{KeyDef as key_def};
-ghost use Rattle.sa_plan.specs.Names.{names_of, names_in, column_name, key_name, table_names};
+ghost use Rattle.sa_plan.specs.Names.{names_of, column_name, key_name, table_names};
 
 use sa_table::{ColumnDef, KeyDef, TableDef, Tables};
 use sa_value::{OutOfMemory, Sequence, Text, Texts};
@@ -44,22 +44,34 @@ impl Names {
         })
     }
 
-    /// The name of a table's column.
+    /// The name of a table's column; empty where there is none.
     pub fn column(&self, table: u32, column: u32) -> &str
-        requires table_there { table < length self.now }
-        requires column_there { column < length (names_in self.now table).columns }
         ensures { result.now ≡ column_name self.now table column }
     {
-        self.tables.as_slice()[table as usize].columns.as_slice()[column as usize].as_str()
+        match self.tables.as_slice().get(table as usize) {
+            Some(names) => name_at(names.columns.as_slice(), column),
+            None => "",
+        }
     }
 
-    /// The name of a table's key.
+    /// The name of a table's key; empty where there is none.
     pub fn key(&self, table: u32, key: u32) -> &str
-        requires table_there { table < length self.now }
-        requires key_there { key < length (names_in self.now table).keys }
         ensures { result.now ≡ key_name self.now table key }
     {
-        self.tables.as_slice()[table as usize].keys.as_slice()[key as usize].as_str()
+        match self.tables.as_slice().get(table as usize) {
+            Some(names) => name_at(names.keys.as_slice(), key),
+            None => "",
+        }
+    }
+}
+
+/// The name with this number; empty where there is none.
+fn name_at(names: &[Text], number: u32) -> &str
+    ensures { result.now ≡ slice_index_or names.now number [] }
+{
+    match names.get(number as usize) {
+        Some(name) => name.as_str(),
+        None => "",
     }
 }
 
