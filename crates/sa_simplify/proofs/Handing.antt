@@ -295,6 +295,13 @@ there_after conjuncts handed again =
     list_any-push (λ conjunct. is_fix handed (fix_in conjunct)) conjuncts (fix_condition handed)
     ∙ ap (λ b. is_there conjuncts handed || b) (ap (is_fix handed) again ∙ is_fix-itself handed) ∙ or_true (is_there conjuncts handed)
 
+-- what is handed on is an equality with a literal other than NULL
+pub handed-again : (conjuncts : List Cond) (handed : Fix) → next_handed conjuncts ≡ Some handed → fix_in (fix_condition handed) ≡ Some handed
+handed-again conjuncts handed is =
+    let origin = next_handed-origin conjuncts handed is in
+    subst (λ v. fix_of handed.place v ≡ Some (record { place = handed.place; literal = v })) origin.literal
+    (known_anywhere origin.fix.place handed.place origin.fix.literal origin.fix (fix_in-again origin.second origin.fix origin.fixes))
+
 pub step_of : (firsts conjuncts : List Cond) (handed : Fix) → IsFrom firsts conjuncts → next_handed conjuncts ≡ Some handed → Step firsts conjuncts handed
 step_of firsts conjuncts handed from is =
     let origin = next_handed-origin conjuncts handed is in
@@ -306,9 +313,7 @@ step_of firsts conjuncts handed from is =
     let place = other_place-cases origin.join origin.fix.place handed.place (is_same_place origin.fix.place origin.join.left) (is_same_place origin.fix.place origin.join.right) origin.other in
     let inside = candidate_in firsts origin.first source.source origin.join source.fix handed (join_there firsts origin.first origin.join origin.joins first_from)
     source.there origin.joins source.fixes (source.literal ∙ origin.literal) place in
-    let again : fix_in (fix_condition handed) ≡ Some handed =
-    subst (λ v. fix_of handed.place v ≡ Some (record { place = handed.place; literal = v })) origin.literal
-    (known_anywhere origin.fix.place handed.place origin.fix.literal origin.fix (fix_in-again origin.second origin.fix origin.fixes)) in
+    let again = handed-again conjuncts handed is in
     record {
       less = lacking-less conjuncts (fix_condition handed) handed (candidates firsts) inside origin.missing (there_after conjuncts handed again);
       from = All-push (λ c. IsIn c firsts ⊎ WasHanded firsts c) conjuncts (fix_condition handed) from (inr (record {

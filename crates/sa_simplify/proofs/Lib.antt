@@ -15,5 +15,8 @@ pub mod FlattenLoop
 pub mod Amidst
 pub mod Handing
 pub mod PropagateLemmas
+pub mod Settled
+pub mod Normal
+pub mod StableLemmas
 pub mod SimpleLemmas
 mod worked

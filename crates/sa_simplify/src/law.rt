@@ -38,3 +38,8 @@ pub fn simple_names_no_more()
 pub fn equalities_are_handed_on()
     ensures { (conjuncts : List condition) → HandsOn conjuncts (handed_all conjuncts) }
 {}
+
+/// Simplifying the simplified form again changes nothing.
+pub fn simple_is_stable()
+    ensures { (cond : condition) → simple (simple cond) ≡ simple cond }
+{}

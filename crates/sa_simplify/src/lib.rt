@@ -15,6 +15,7 @@ mod turn;
 mod walk;
 
 pub use law::{
-    equalities_are_handed_on, simple_is_true_alike, simple_is_typed, simple_names_no_more,
+    equalities_are_handed_on, simple_is_stable, simple_is_true_alike, simple_is_typed,
+    simple_names_no_more,
 };
 pub use simple::simplify;
