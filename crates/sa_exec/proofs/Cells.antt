@@ -1,5 +1,6 @@
 -- The cells of a chosen row are there and meet the kinds of their columns, so that a lawful tree can be evaluated on it.
 use Rattle.std.proofs.Common.{◌≡◌, ℕ, ℤ, ◌<◌, ◌≤ℤ◌, ◌==◌, Bool, true, false, not, ◌&&◌, int_le, List, [], ◌∷◌, length, All, slice_index_or, refl, sym, subst, ◌∙◌, arith, zero, suc}
+use Rattle.std.specs.Bool.{⊤}
 use Rattle.std.proofs.lemmas.Bool.Decides.{Decides-eqb}
 use lib.Signed.{le_z_yes}
 use lib.Dec.{T}
@@ -96,7 +97,7 @@ in_sight tables level position number sight =
     sight.4
 
 pub name_is_there : (tables : List Table) (level : Level) (row : ℕ) (name : Name) → level.table < length tables → row < row_count tables level.table
-    → IsInSight tables (level ∷ []) name → IsThere (IsCell tables level.position level.table row) (λ number. ⊥) name
+    → IsInSight tables (level ∷ []) name → IsThere (IsCell tables level.position level.table row) (λ number. ⊤) name
 name_is_there tables level row (named_column position number) table_there row_there sight =
     let seen = in_sight tables level position number sight in
     record { table_there = table_there; row_there = row_there; position_is = sym seen.0; column_there = seen.1 }
@@ -112,9 +113,9 @@ name_meets tables level row (named_slot number) sound table_there row_there sigh
 
 -- A lawful condition can be tested on a row that is there.
 pub cond_is_there : (tables : List Table) (level : Level) (row : ℕ) (cond : Cond) → level.table < length tables → row < row_count tables level.table
-    → IsLawfulCond tables (level ∷ []) cond → All (IsThere (IsCell tables level.position level.table row) (λ number. ⊥)) (cond_names cond)
+    → IsLawfulCond tables (level ∷ []) cond → All (IsThere (IsCell tables level.position level.table row) (λ number. ⊤)) (cond_names cond)
 cond_is_there tables level row cond table_there row_there lawful =
-    All-weaker (IsInSight tables (level ∷ [])) (IsThere (IsCell tables level.position level.table row) (λ number. ⊥))
+    All-weaker (IsInSight tables (level ∷ [])) (IsThere (IsCell tables level.position level.table row) (λ number. ⊤))
     (λ name sight. name_is_there tables level row name table_there row_there sight) (cond_names cond) lawful.names
 
 pub cond_can_be_tested : (tables : List Table) (level : Level) (row : ℕ) (cond : Cond) → AreSound tables → level.table < length tables → row < row_count tables level.table
@@ -128,9 +129,9 @@ cond_can_be_tested tables level row cond sound table_there row_there lawful = re
 
 -- A lawful expression can be evaluated on it.
 pub expr_is_there : (tables : List Table) (level : Level) (row : ℕ) (expr : Expr) → level.table < length tables → row < row_count tables level.table
-    → IsLawfulExpr tables (level ∷ []) expr → All (IsThere (IsCell tables level.position level.table row) (λ number. ⊥)) (expr_names expr)
+    → IsLawfulExpr tables (level ∷ []) expr → All (IsThere (IsCell tables level.position level.table row) (λ number. ⊤)) (expr_names expr)
 expr_is_there tables level row expr table_there row_there lawful =
-    All-weaker (IsInSight tables (level ∷ [])) (IsThere (IsCell tables level.position level.table row) (λ number. ⊥))
+    All-weaker (IsInSight tables (level ∷ [])) (IsThere (IsCell tables level.position level.table row) (λ number. ⊤))
     (λ name sight. name_is_there tables level row name table_there row_there sight) (expr_names expr) lawful.names
 
 pub expr_can_be_evaluated : (tables : List Table) (level : Level) (row : ℕ) (expr : Expr) → AreSound tables → level.table < length tables → row < row_count tables level.table

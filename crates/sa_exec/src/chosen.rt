@@ -12,14 +12,15 @@ pub(crate) struct ChosenRow<'a> {
 }
 
 impl Cells for ChosenRow<'_> {
-    ghost use Rattle.std.specs.Prelude.{[], ◌∷◌};
+    ghost use Rattle.std.specs.Prelude.{⊤, [], ◌∷◌};
     ghost use Rattle.sa_plan.specs.Chosen.{chosen_cell};
     ghost use Rattle.sa_value.specs.declared.value.Value.TheVariants.{Null};
     ghost use Rattle.sa_exec.specs.inner.Chosen.{IsCell};
 
     ghost has_cell = { λ chosen. IsCell chosen.tables.now chosen.position chosen.table chosen.row };
 
-    ghost has_slot = { λ chosen number. ⊥ };
+    // Without groups every slot is NULL.
+    ghost has_slot = { λ chosen number. ⊤ };
 
     ghost cell_of = { λ chosen. chosen_cell chosen.tables.now
         (record { position = chosen.position; table = chosen.table; row = chosen.row } ∷ []) };
