@@ -5,3 +5,7 @@ pub mod May
 pub mod keeps
 pub mod follows
 pub mod working
+pub mod Called
+pub mod StepLemmas
+pub mod Worked
+pub mod Kept

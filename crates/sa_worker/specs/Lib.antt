@@ -5,3 +5,6 @@ pub mod Holds
 pub mod Keeps
 pub mod Follows
 pub mod Working
+pub mod Sound
+pub mod Answered
+pub mod inner

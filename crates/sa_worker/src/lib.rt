@@ -4,10 +4,25 @@
 //! turn.
 #![tactic(auto)]
 
+mod asking;
+mod begins;
+mod ending;
+mod given;
 mod law;
+mod moves;
+mod opening;
+mod prepares;
+mod running;
+mod session;
+mod settings;
+mod stage;
+mod steps;
 mod turned;
+mod waiting;
+mod worker;
 
 pub use law::{
     entries_are_so_far, journals_are_legal, worker_calls, worker_prepares, workers_begin,
 };
 pub use turned::Turned;
+pub use worker::Worker;

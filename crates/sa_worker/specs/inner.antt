@@ -1,0 +1,4 @@
+pub mod Fields
+pub mod Ties
+pub mod Steps
+pub mod Called
