@@ -51,15 +51,19 @@ fn explained(alloc: Global, items: ItemTrees, from: TableTrees) -> Statement
     })
 }
 
+/// The text of such a statement.
+fn explained_text(alloc: Global, items: ItemTrees, from: TableTrees) -> Result<Text, OutOfMemory> {
+    statement_text(alloc, &explained(alloc, items, from))
+}
+
 #[test]
 fn writes_a_query(rt: HostRuntime) -> Result<(), Fail> {
     let tables = one_table(rt.alloc(), Text::from_str(rt.alloc(), "t")?)?;
-    let tree = explained(rt.alloc(), star(rt.alloc())?, tables);
-    let text = statement_text(rt.alloc(), &tree)?;
+    let text = explained_text(rt.alloc(), star(rt.alloc())?, tables)?;
     assert_eq!(rt;
         text.as_str(),
         "EXPLAIN SELECT DISTINCT * FROM t LIMIT 2 OFFSET 1",
-        "a query that is explained: {tree:?}"
+        "a query that is explained, with DISTINCT, a LIMIT and an OFFSET"
     );
     Ok(())
 }
