@@ -3,7 +3,6 @@ use Rattle.std.specs.Prelude.{ℕ, ℤ, Bool, true, false, not, ◌&&◌, ◌==�
 use Rattle.sa_value.specs.declared.truth.CompareOp.{CompareOp}
 use Rattle.sa_ast.specs.declared.expression.ExprNode.{ExprNode, ExprNode-F, out-ExprNode}
 use Rattle.sa_ast.specs.declared.expression.ExprTree.{ExprTree}
-use Rattle.sa_ast.specs.declared.name.NameTree.{NameTree}
 use Rattle.sa_ast.specs.declared.select.ItemNode.{ItemNode}
 use Rattle.sa_ast.specs.declared.select.ItemNode.TheVariants.{Value}
 use Rattle.sa_ast.specs.declared.select.ItemTree.{ItemTree}
@@ -93,5 +92,5 @@ abbrev pub first_form : SelectTree → Option FirstForm
 first_form tree =
     if is_short tree
     then option_and_then (λ table. option_and_then (λ column. option_map (λ filter. record { table = table; filter = filter })
-      (filter_of column tree.filter)) (selected tree)) (source tree)
+    (filter_of column tree.filter)) (selected tree)) (source tree)
     else None

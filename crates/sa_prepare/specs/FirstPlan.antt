@@ -1,5 +1,5 @@
 -- The plan of a SELECT of the form that is planned today, over one table that is there and a column of numbers.
-use Rattle.std.specs.Prelude.{ℕ, ℤ, pos, negsuc, ◌+◌, ◌*◌, Bool, true, false, ◌&&◌, ◌==◌, int_le, nat_lt, List, [], ◌∷◌, length, Option, Some, None, if◌then◌else◌}
+use Rattle.std.specs.Prelude.{ℕ, ℤ, pos, negsuc, ◌+◌, ◌*◌, Bool, true, false, ◌&&◌, int_le, nat_lt, List, [], ◌∷◌, length, Option, Some, None, if◌then◌else◌}
 use Rattle.std.specs.List.{position_or_len}
 use Rattle.sa_value.specs.declared.value.Value.TheVariants.{Int}
 use Rattle.sa_cond.specs.declared.cond.Cond.TheVariants.{Compare}

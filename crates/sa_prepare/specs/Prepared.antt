@@ -11,8 +11,7 @@ use Rattle.sa_ast.specs.declared.statement.Statement.TheVariants as tree
 use Rattle.sa_print.specs.Statement.{canonical_statement}
 use Rattle.sa_parser.specs.declared.answer.ParseFault.{ParseFault}
 use Rattle.sa_parser.specs.declared.answer.ParseFault.TheVariants as parse
-use Rattle.sa_parser.specs.Parse.{IsAnswer}
-use Rattle.sa_parser.specs.StatementGrammar.{IsStatement}
+use Rattle.sa_parser.specs.Parse.{IsAnswer, IsStatement}
 use Rattle.sa_query.specs.declared.refusal.Refusal.{Refusal}
 use Rattle.sa_query.specs.declared.refusal.Refusal.TheVariants as refusal
 use Rattle.sa_table.specs.Table.{Table}
