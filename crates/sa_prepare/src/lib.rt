@@ -3,6 +3,12 @@
 //! A worker prepares each statement by `Ready` in the statement's first turn.
 #![tactic(auto)]
 
+mod first_form;
+mod law;
+mod plan;
 mod ready;
+mod refusal;
+mod work;
 
+pub use law::prepared_is_sound;
 pub use ready::Ready;
