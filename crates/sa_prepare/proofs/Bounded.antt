@@ -1,0 +1,136 @@
+-- A statement that sets a limit of row steps sets one from 1 to 2^40.
+use Rattle.std.proofs.Common.{◌≡◌, ℕ, ◌+◌, ◌^◌, ◌<◌, ◌≤◌, Bool, true, false, cond, nat_lt, List, inl, inr, refl, sym, subst, arith}
+use Rattle.std.specs.Prelude.{⊤, Option, Some, None}
+use Rattle.std.proofs.lemmas.Bool.{ltb-true}
+use Rattle.sa_lexer.specs.declared.token.Token.{Token}
+use Rattle.sa_ast.specs.declared.expression.ExprTree.{ExprTree}
+use Rattle.sa_ast.specs.declared.kind.AskKind.{AskKind}
+use Rattle.sa_ast.specs.declared.kind.AskKind.TheVariants as ask
+use Rattle.sa_ast.specs.declared.kind.KillKind.{KillKind}
+use Rattle.sa_ast.specs.declared.kind.KillKind.TheVariants as killed
+use Rattle.sa_ast.specs.declared.select.SelectTree.{SelectTree}
+use Rattle.sa_ast.specs.declared.statement.Statement.{Statement}
+use Rattle.sa_ast.specs.declared.statement.Statement.TheVariants as said
+use Rattle.sa_parser.specs.SelectTree.{or_else}
+use Rattle.sa_parser.specs.Token.{number_of}
+use Rattle.sa_parser.specs.Form.{Form, One, Made, Then, Either}
+use Rattle.sa_parser.specs.StatementGrammar.{positive, steps_in, Explain, Analyze, Show, Kill, Set, TraceRows, Wait, statement}
+use Rattle.sa_parser.specs.Parse.{IsStatement}
+use Rattle.sa_parser.proofs.canonical_text.EachPart.{same_some, small}
+
+abbrev IsLimit : ℕ → Type 0
+IsLimit limit = (1 ≤ limit) × (limit ≤ 2 ^ 40)
+
+abbrev pub IsBounded : Statement → Type 0
+IsBounded (said.SetLimit limit) = IsLimit limit
+IsBounded statement = ⊤
+
+-- a fact of each value of a form, and of what a function makes of whatever follows
+abbrev Each : {A : Type 0} → (A → Type 0) → Form A → Type 0
+Each {A} Fact Is = (tokens : List Token) (value : A) → Is tokens value → Fact value
+
+abbrev Into : (A : Type 0) {B : Type 0} → (B → Type 0) → (A → B) → Type 0
+Into A Whole make = (part : A) → Whole (make part)
+
+module _ {A B : Type 0} (Whole : B → Type 0) where
+  of_made : (make : A → B) (Is : Form A) → Into A Whole make → Each Whole (Made make Is)
+  unfolding Made
+  of_made make Is makes tokens value is = subst Whole (sym is.2) (makes is.0)
+
+  past : (First : Form (A → B)) (Second : Form A) → Each (Into A Whole) First → Each Whole (Then First Second)
+  unfolding Then
+  past First Second first tokens value is = subst Whole (sym is.7) (first is.0 is.2 is.5 is.3)
+
+  of_then : (Part : A → Type 0) (First : Form (A → B)) (Second : Form A) → Each (λ make. (part : A) → Part part → Whole (make part)) First → Each Part Second → Each Whole (Then First Second)
+  unfolding Then
+  of_then Part First Second first second tokens value is = subst Whole (sym is.7) (first is.0 is.2 is.5 is.3 (second is.1 is.3 is.6))
+
+of_either : {A : Type 0} (Fact : A → Type 0) (First Second : Form A) → Each Fact First → Each Fact Second → Each Fact (Either First Second)
+unfolding Either
+of_either Fact First Second one other tokens value is = elim is [ inl here ↦ one tokens value here | inr here ↦ other tokens value here ]
+
+-- A limit is positive and below its bound.
+positive_told : (found : Option ℕ) (value : ℕ) → positive found ≡ Some value → (found ≡ Some value) × (0 < value)
+positive_told None value e = absurd cc
+positive_told (Some number) value e = tested (nat_lt 0 number) refl e
+  where
+    tested : (test : Bool) → nat_lt 0 number ≡ test → cond test (Some number) None ≡ Some value → (Some number ≡ Some value) × (0 < value)
+    tested true is e = (e, subst (λ (n : ℕ). 0 < n) (same_some number value e) (ltb-true 0 number is))
+    tested false is e = absurd cc
+
+each_steps : Each IsLimit (One steps_in)
+unfolding One steps_in
+each_steps tokens value is =
+    let told = positive_told (number_of (2 ^ 40 + 1) (is.0).kind) value is.2 in
+    let below = small (2 ^ 40 + 1) (is.0).kind value told.0 in
+    let some = told.1 in (omega (arith, some), omega (arith, below))
+
+each_set : Each IsBounded Set
+unfolding Set
+each_set =
+    let same : ℕ → Option ℕ → Statement → Statement = λ _ _ statement. statement in
+    let traced : ℕ → ℕ → Bool → Statement = λ _ _ on. said.SetTrace on in
+    let limited : ℕ → ℕ → ℕ → Statement = λ _ _ steps. said.SetLimit steps in
+    let Kept : (Statement → Statement) → Type 0 = λ make. (part : Statement) → IsBounded part → IsBounded (make part) in
+    let Limits : (ℕ → Statement) → Type 0 = λ make. (part : ℕ) → IsLimit part → IsBounded (make part) in
+    of_then IsBounded IsBounded _ _ (past Kept _ _ (of_made (Into (Option ℕ) Kept) same _ (λ place session statement is. is)))
+    (of_either IsBounded _ _
+    (past IsBounded _ _ (past (Into Bool IsBounded) _ _ (of_made (Into ℕ (Into Bool IsBounded)) traced _ (λ place equal on. tt))))
+    (of_then IsBounded IsLimit _ _ (past Limits _ _ (of_made (Into ℕ Limits) limited _ (λ place equal steps is. is))) each_steps))
+
+each_trace_rows : Each IsBounded TraceRows
+unfolding TraceRows
+each_trace_rows =
+    let make : ℕ → ℕ → ℕ → ℕ → ℕ → ℕ → Statement = λ _ _ _ _ _ _. said.TraceRows in
+    past IsBounded _ _ (past (Into ℕ IsBounded) _ _ (past (Into ℕ (Into ℕ IsBounded)) _ _ (past (Into ℕ (Into ℕ (Into ℕ IsBounded))) _ _ (past (Into ℕ (Into ℕ (Into ℕ (Into ℕ IsBounded)))) _ _
+    (of_made (Into ℕ (Into ℕ (Into ℕ (Into ℕ (Into ℕ IsBounded))))) make _ (λ a b c d e f. tt))))))
+
+each_show : Each IsBounded Show
+unfolding Show
+each_show =
+    let make : ℕ → AskKind → Option ℕ → ℕ → ℕ → Statement = λ _ kind _ _ id. said.Show kind id in
+    past IsBounded _ _ (past (Into ℕ IsBounded) _ _ (past (Into ℕ (Into ℕ IsBounded)) _ _ (past (Into (Option ℕ) (Into ℕ (Into ℕ IsBounded))) _ _
+    (of_made (Into AskKind (Into (Option ℕ) (Into ℕ (Into ℕ IsBounded)))) make _ (λ a b c d e. tt)))))
+
+each_kill : Each IsBounded Kill
+unfolding Kill
+each_kill =
+    let make : ℕ → Option KillKind → ℕ → Statement = λ _ kind id. said.Kill (or_else killed.Connection kind) id in
+    past IsBounded _ _ (past (Into ℕ IsBounded) _ _ (of_made (Into (Option KillKind) (Into ℕ IsBounded)) make _ (λ a b c. tt)))
+
+each_wait : Each IsBounded Wait
+unfolding Wait
+each_wait =
+    let make : ℕ → ℕ → ℕ → ℕ → ℕ → Statement = λ _ _ id _ at. said.Wait id at in
+    past IsBounded _ _ (past (Into ℕ IsBounded) _ _ (past (Into ℕ (Into ℕ IsBounded)) _ _ (past (Into ℕ (Into ℕ (Into ℕ IsBounded))) _ _
+    (of_made (Into ℕ (Into ℕ (Into ℕ (Into ℕ IsBounded)))) make _ (λ a b c d e. tt)))))
+
+module _ (Expr : Form ExprTree) where
+  each_explain : Each IsBounded (Explain Expr)
+  unfolding Explain
+  each_explain =
+      let same : ℕ → Option ℕ → Statement → Statement = λ _ _ statement. statement in
+      let shown : ℕ → ℕ → ℕ → Statement = λ _ _ id. said.Show ask.Explain id in
+      let Kept : (Statement → Statement) → Type 0 = λ make. (part : Statement) → IsBounded part → IsBounded (make part) in
+      of_then IsBounded IsBounded _ _ (past Kept _ _ (of_made (Into (Option ℕ) Kept) same _ (λ place format statement is. is)))
+      (of_either IsBounded _ _
+      (past IsBounded _ _ (past (Into ℕ IsBounded) _ _ (of_made (Into ℕ (Into ℕ IsBounded)) shown _ (λ place connection id. tt))))
+      (of_made IsBounded (λ (tree : SelectTree). said.Explain tree) _ (λ tree. tt)))
+
+  each_analyze : Each IsBounded (Analyze Expr)
+  unfolding Analyze
+  each_analyze =
+      let make : ℕ → Option ℕ → SelectTree → Statement = λ _ _ tree. said.Analyze tree in
+      past IsBounded _ _ (past (Into SelectTree IsBounded) _ _ (of_made (Into (Option ℕ) (Into SelectTree IsBounded)) make _ (λ place format tree. tt)))
+
+each_statement : (levels : ℕ) → Each IsBounded (statement levels)
+unfolding statement
+each_statement levels =
+    of_either IsBounded _ _ each_trace_rows
+    (of_either IsBounded _ _ (of_made IsBounded (λ (tree : SelectTree). said.Select tree) _ (λ tree. tt))
+    (of_either IsBounded _ _ (each_explain _)
+    (of_either IsBounded _ _ (each_analyze _)
+    (of_either IsBounded _ _ each_show (of_either IsBounded _ _ each_kill (of_either IsBounded _ _ each_set each_wait))))))
+
+pub statement_bounded : (tokens : List Token) (tree : Statement) → IsStatement tokens tree → IsBounded tree
+statement_bounded tokens tree is = each_statement is.0 tokens tree is.1

@@ -1,0 +1,4 @@
+pub mod May
+pub mod Bounded
+pub mod Lawful
+pub mod SoundWork
