@@ -1,5 +1,5 @@
 -- How a piece of a script is read: its tokens at their places in the script, their tree, and the faults of both.
-use Rattle.std.specs.Prelude.{◌≡◌, ℕ, ◌+◌, List, Option, Some, None, Ok, Err}
+use Rattle.std.specs.Prelude.{◌≡◌, ℕ, ◌+◌, ◌⊎◌, List, Option, Some, None, Ok, Err}
 use Rattle.sa_lexer.specs.declared.fault.LexKind.{LexKind}
 use Rattle.sa_lexer.specs.declared.fault.LexKind.TheVariants as lex
 use Rattle.sa_lexer.specs.declared.token.Token.{Token}
@@ -49,3 +49,7 @@ pub record HasParseFault {A : Type 0} (Is : Form A) (piece : Piece) (fault : Fau
   pub told : ParseFault
   pub is : IsAnswer Is tokens (Err told)
   pub fault_is : parse_fault told ≡ Some fault
+
+-- A piece that can't be read in the form has this fault first: of the lexer, or of the grammar.
+abbrev pub CantRead : {A : Type 0} → Form A → Piece → Fault → Type 0
+CantRead Is piece fault = HasLexFault piece fault ⊎ HasParseFault Is piece fault

@@ -18,7 +18,7 @@ use Rattle.sa_script.specs.Direct.{Directs, CantDirect}
 use Rattle.sa_script.specs.Fault.{Fault, fault_at}
 use Rattle.sa_script.specs.Insert.{Inserts, CantInsert}
 use Rattle.sa_script.specs.Piece.{Piece, IsPiece, kind_at, source_of, front_space, place_behind}
-use Rattle.sa_script.specs.Reads.{ReadsAs, HasLexFault, HasParseFault, lex_kind}
+use Rattle.sa_script.specs.Reads.{ReadsAs, CantRead, lex_kind}
 use Rattle.sa_script.specs.Said.{with_statement, last_session}
 
 -- A statement that sets tables up makes these tables of those.
@@ -34,9 +34,9 @@ CantSetUp tables (Insert tree) fault = CantInsert tables tree fault
 CantSetUp tables tree fault = ⊥
 
 -- whether one more statement may be put to a session, and whether it is short enough
-abbrev pub statement_fault : Said → Piece → Option Fault
-statement_fault said piece =
-    if not (nat_lt (length (last_session said.sessions)) 256) then Some (fault_at script.TooManyStatements (piece.place + front_space piece.text))
+abbrev pub statement_fault : List (List (List ℕ)) → Piece → Option Fault
+statement_fault sessions piece =
+    if not (nat_lt (length (last_session sessions)) 256) then Some (fault_at script.TooManyStatements (piece.place + front_space piece.text))
     else (if nat_lt 65536 (length (source_of piece.text)) then Some (fault_at script.StatementTooLong (piece.place + front_space piece.text)) else None)
 
 -- A piece of this kind says this; the next one begins so many bytes behind its `;`.
@@ -48,7 +48,7 @@ SaysAs Setup said piece behind next skipped =
     (tree : statement.Statement) × (after : List Table) × ReadsAs IsSetup piece tree × SetsUp said.tables tree after
     × (next ≡ record said { tables = after }) × (skipped ≡ 0)
 SaysAs Statement said piece behind next skipped =
-    (statement_fault said piece ≡ None)
+    (statement_fault said.sessions piece ≡ None)
     × (next ≡ record said { sessions = with_statement said.sessions (source_of piece.text) }) × (skipped ≡ 0)
 SaysAs (Late place) said piece behind next skipped = ⊥
 
@@ -56,14 +56,10 @@ SaysAs (Late place) said piece behind next skipped = ⊥
 abbrev pub FailsAs : Kind → Said → Piece → List ℕ → Fault → Type 0
 FailsAs Blank said piece behind fault = ⊥
 FailsAs Directive said piece behind fault =
-    HasLexFault piece fault
-    ⊎ (HasParseFault IsDirective piece fault
-    ⊎ ((tree : tree.Directive) × ReadsAs IsDirective piece tree × CantDirect said piece tree behind fault))
+    CantRead IsDirective piece fault ⊎ ((tree : tree.Directive) × ReadsAs IsDirective piece tree × CantDirect said piece tree behind fault)
 FailsAs Setup said piece behind fault =
-    HasLexFault piece fault
-    ⊎ (HasParseFault IsSetup piece fault
-    ⊎ ((tree : statement.Statement) × ReadsAs IsSetup piece tree × CantSetUp said.tables tree fault))
-FailsAs Statement said piece behind fault = statement_fault said piece ≡ Some fault
+    CantRead IsSetup piece fault ⊎ ((tree : statement.Statement) × ReadsAs IsSetup piece tree × CantSetUp said.tables tree fault)
+FailsAs Statement said piece behind fault = statement_fault said.sessions piece ≡ Some fault
 FailsAs (Late place) said piece behind fault = fault ≡ fault_at script.AfterSchedule place
 
 -- After what was said, a piece stands from this place on, and says this; what follows it stands from another place on.
@@ -91,7 +87,7 @@ pub record Fails (text : List ℕ) (said : Said) (from : ℕ) (fault : Fault) : 
 pub record IsLeftOpen (text : List ℕ) (from : ℕ) (fault : Fault) : Type 0 where
   pub kind : LexKind
   pub place : ℕ
-  pub open : IsOpenPiece from text kind place
+  pub unclosed : IsOpenPiece from text kind place
   pub fault_is : fault ≡ fault_at (lex_kind kind) place
 
 -- What stands from this place on has this fault in its first piece: it is left open, or it fails.

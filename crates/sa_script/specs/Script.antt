@@ -28,7 +28,7 @@ pub record IsScript (text : List ℕ) (script : Script) : Type 0 where
   pub from : ℕ
   pub lead : LeadTo text nothing_said 0 pieces said from
   pub piece : Piece
-  pub open : piece.closed ≡ false
+  pub unclosed : piece.closed ≡ false
   pub next : Said
   pub to : ℕ
   pub last : Says text said from piece next to
