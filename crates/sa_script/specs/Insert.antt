@@ -1,6 +1,6 @@
 -- Which rows an INSERT of a script puts into its table, and its fault.
 -- Source: MariaDB Knowledge Base, "INSERT".
-use Rattle.std.specs.Prelude.{◌≡◌, ℕ, ◌<◌, ◌==◌, List, [], ◌∷◌, ◌++◌, ◌+◌, ◌⊎◌, map, take, length, Option, Some, None, slice_get, slice_index_or, slice_set, Bool, not, EachIndex, if◌then◌else◌}
+use Rattle.std.specs.Prelude.{◌≡◌, ℕ, ◌<◌, ◌==◌, List, [], ◌∷◌, ◌+◌, ◌⊎◌, map, take, length, Option, Some, None, slice_get, slice_index_or, slice_set, Bool, not, if◌then◌else◌}
 use Rattle.std.specs.List.{list_any, position_or_len}
 use Rattle.sa_value.specs.declared.value.Value.{Value}
 use Rattle.sa_value.specs.declared.value.Value.TheVariants.{Null}

@@ -9,3 +9,4 @@ pub mod Load
 pub mod Direct
 pub mod Says
 pub mod Script
+pub mod inner

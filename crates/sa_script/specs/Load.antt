@@ -95,7 +95,7 @@ abbrev pub IsBlockMissing : Piece → NumberTree → List ℕ → Fault → Type
 IsBlockMissing piece count behind fault =
     ((piece.closed ≡ false) × (fault ≡ fault_at script.BlockMissing (place_behind piece)))
     ⊎ ((begins : ℕ) × (piece.closed ≡ true) × HasNoBlock behind count.number begins
-      × (fault ≡ fault_at script.BlockMissing (place_behind piece + begins)))
+    × (fault ≡ fault_at script.BlockMissing (place_behind piece + begins)))
 
 -- The block is there, and has a fault.
 pub record HasBadBlock (table : Table) (piece : Piece) (count : NumberTree) (behind : List ℕ) (fault : Fault) : Type 0 where
@@ -111,4 +111,4 @@ abbrev pub CantLoad : List Table → Piece → NameTree → NumberTree → List 
 CantLoad tables piece name count behind fault =
     IsUnknown tables name fault
     ⊎ ((table : ℕ) × (table_named tables name.name ≡ Some table)
-      × (IsBlockMissing piece count behind fault ⊎ HasBadBlock (table_at tables table) piece count behind fault))
+    × (IsBlockMissing piece count behind fault ⊎ HasBadBlock (table_at tables table) piece count behind fault))

@@ -1,4 +1,8 @@
+ghost use Rattle.std.specs.Prelude.{◌≡◌};
+ghost use Rattle.sa_script.specs.declared.fault.ScriptFault.TheVariants as faults;
+
 use sa_value::OutOfMemory;
+use std::alloc::{AllocError, AllocFailed};
 
 /// Why a text is no script. Of several faults the first in the text is told; of several at one place, the
 /// first of this list.
@@ -88,12 +92,50 @@ pub enum ScriptFault {
     OutOfMemory,
 }
 
-impl From<OutOfMemory> for ScriptFault {
-    ghost use Rattle.sa_script.specs.declared.fault.ScriptFault.TheVariants as faults;
+impl ScriptFault {
+    /// A fault at a byte, where no row is at fault.
+    pub(crate) fn at(kind: ScriptKind, place: usize) -> ScriptFault
+        ensures { result ≡ ScriptFault.Bad kind place None }
+    {
+        ScriptFault::Bad {
+            kind,
+            place,
+            line: None,
+        }
+    }
 
+    /// A fault of a row, by its number from 1 on.
+    pub(crate) fn of_row(kind: ScriptKind, place: usize, number: u64) -> ScriptFault
+        ensures { result ≡ ScriptFault.Bad kind place (Some number) }
+    {
+        ScriptFault::Bad {
+            kind,
+            place,
+            line: Some(number),
+        }
+    }
+}
+
+impl From<OutOfMemory> for ScriptFault {
     ghost from_gives = { λ _ fault. fault ≡ faults.OutOfMemory };
 
     fn from(_error: OutOfMemory) -> ScriptFault {
+        ScriptFault::OutOfMemory
+    }
+}
+
+impl From<AllocError> for ScriptFault {
+    ghost from_gives = { λ _ fault. fault ≡ faults.OutOfMemory };
+
+    fn from(_error: AllocError) -> ScriptFault {
+        ScriptFault::OutOfMemory
+    }
+}
+
+impl<T: Drop> From<AllocFailed<T>> for ScriptFault {
+    ghost from_gives = { λ _ fault. fault ≡ faults.OutOfMemory };
+
+    fn from(_error: AllocFailed<T>) -> ScriptFault {
         ScriptFault::OutOfMemory
     }
 }

@@ -3,10 +3,23 @@
 //! The reader of scripts makes one, or tells the first fault of the text at its byte.
 #![tactic(auto)]
 
+mod create;
+mod direct;
 mod fault;
+mod insert;
 mod kind;
+mod layout;
+mod load;
+mod named;
+mod piece;
+mod reading;
+mod reads;
 mod said;
+mod says;
 mod script;
+mod source;
+mod statement;
 
 pub use fault::{ScriptFault, ScriptKind};
+pub use reading::read_script;
 pub use script::{Schedule, Script, SessionScript, SessionScripts};

@@ -1,0 +1,14 @@
+pub mod Places
+pub mod NamedLemmas
+pub mod CreateLemmas
+pub mod LayoutLemmas
+pub mod InsertLemmas
+pub mod Trims
+pub mod Shifts
+pub mod Sessions
+pub mod Pieces
+pub mod Blocks
+pub mod Telling
+pub mod Schedules
+pub mod Stepping
+pub mod Leading
