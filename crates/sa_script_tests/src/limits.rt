@@ -57,8 +57,8 @@ fn keeps_the_limit_of_a_schedule(rt: HostRuntime) -> Result<(), Fail> {
     let alloc = rt.alloc();
     let most = repeated(alloc, "SESSION 1; SCHEDULE", " 1", 65_536, "; ^x")?;
     is_faulty(&rt, "65,536 numbers", most.as_str(), "AfterSchedule")?;
-    let many = repeated(alloc, "SESSION 1; SCHEDULE", " 1", 65_536, " ^1 1")?;
-    is_faulty(&rt, "65,538 numbers", many.as_str(), "ScheduleTooLong")?;
+    let many = repeated(alloc, "SESSION 1; SCHEDULE", " 1", 65_536, " ^1")?;
+    is_faulty(&rt, "65,537 numbers", many.as_str(), "ScheduleTooLong")?;
     let unknown = repeated(alloc, "SESSION 1; SCHEDULE", " 1", 65_536, " ^2")?;
     is_faulty(
         &rt,

@@ -17,6 +17,37 @@ fn reads_a_whole_script(rt: HostRuntime) -> Result<(), Fail> {
     has_rows(&rt, "two sessions", WHOLE, "1 | 2 | 3")
 }
 
+/// Places are bytes of the whole script, counted from 0 on, and rows from 1 on.
+#[test]
+fn tells_places_and_rows_of_scripts(rt: HostRuntime) -> Result<(), Fail> {
+    let rows = [
+        (
+            "an open text",
+            "CREATE TABLE t (a VARCHAR(5)); INSERT INTO t VALUES ('x",
+            "OpenText at 53",
+        ),
+        (
+            "a block that is too short",
+            "CREATE TABLE t (a INT); LOAD DATA t BYTES 9;\n1\n",
+            "BlockMissing at 45",
+        ),
+        (
+            "a key twice",
+            "CREATE TABLE t (a INT PRIMARY KEY); INSERT INTO t VALUES (1), (1);",
+            "DuplicateKey at 62 in row 2",
+        ),
+        (
+            "tables alone",
+            "CREATE TABLE t (a INT); INSERT INTO t VALUES (1), (2), (3);",
+            "quantum 64, turns 1000000",
+        ),
+    ];
+    for (name, text, wanted) in rows {
+        runs(&rt, name, text, wanted)?;
+    }
+    Ok(())
+}
+
 /// The beginning of so many bytes is a script, or has one fault within it.
 fn is_read<R: Abort + Alloc<A = Global>>(rt: &R, bytes: &[u8]) -> Result<(), Fail> {
     let len = bytes.len();
