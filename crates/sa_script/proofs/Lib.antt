@@ -12,3 +12,5 @@ pub mod Telling
 pub mod Schedules
 pub mod Stepping
 pub mod Leading
+pub mod lexing
+pub mod one_answer

@@ -19,7 +19,9 @@ mod says;
 mod script;
 mod source;
 mod statement;
+mod unique;
 
 pub use fault::{ScriptFault, ScriptKind};
 pub use reading::read_script;
 pub use script::{Schedule, Script, SessionScript, SessionScripts};
+pub use unique::text_has_one_answer;
