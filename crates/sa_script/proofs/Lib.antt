@@ -1,0 +1,16 @@
+pub mod Places
+pub mod NamedLemmas
+pub mod CreateLemmas
+pub mod LayoutLemmas
+pub mod InsertLemmas
+pub mod Trims
+pub mod Shifts
+pub mod Sessions
+pub mod Pieces
+pub mod Blocks
+pub mod Telling
+pub mod Schedules
+pub mod Stepping
+pub mod Leading
+pub mod lexing
+pub mod one_answer

@@ -1,0 +1,5 @@
+pub mod Opened
+pub mod Quoted
+pub mod Wrong
+pub mod Reading
+pub mod Cutting

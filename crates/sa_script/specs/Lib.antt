@@ -1,0 +1,12 @@
+pub mod Fault
+pub mod Said
+pub mod Piece
+pub mod Reads
+pub mod Named
+pub mod Create
+pub mod Insert
+pub mod Load
+pub mod Direct
+pub mod Says
+pub mod Script
+pub mod inner
