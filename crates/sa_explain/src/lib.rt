@@ -3,6 +3,11 @@
 //! MariaDB's Knowledge Base has their keys under "EXPLAIN FORMAT=JSON" and "ANALYZE FORMAT=JSON".
 #![tactic(auto)]
 
+mod condition;
+mod counted;
 mod document;
+mod leaf;
+mod level;
+mod tree;
 
 pub use document::{analyze_json, plan_json};

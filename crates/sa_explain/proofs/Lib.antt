@@ -1,0 +1,3 @@
+mod Exact
+mod Loops
+mod Trees
