@@ -1,0 +1,4 @@
+pub mod Names
+pub mod Outcome
+pub mod Line
+pub mod Transcript

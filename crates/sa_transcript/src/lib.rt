@@ -1,0 +1,8 @@
+//! Journals as text: a line of JSON for each entry.
+//!
+//! What `kamewhisk step` prints. docs/OUTPUT.md has the lines for whoever reads them.
+#![tactic(auto)]
+
+mod transcript;
+
+pub use transcript::render;
