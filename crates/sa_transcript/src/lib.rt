@@ -3,6 +3,9 @@
 //! What `kamewhisk step` prints. docs/OUTPUT.md has the lines for whoever reads them.
 #![tactic(auto)]
 
+mod line;
+mod names;
+mod object;
 mod transcript;
 
 pub use transcript::render;
