@@ -2,3 +2,4 @@ pub mod Names
 pub mod Outcome
 pub mod Line
 pub mod Transcript
+pub mod inner

@@ -1,5 +1,5 @@
 -- The line of an entry of a journal.
-use Rattle.std.specs.Prelude.{ℕ, List, [], map, codes, Option, None, Some, Bool, true, false}
+use Rattle.std.specs.Prelude.{ℕ, List, map, codes, Option, None, Some, Bool, true, false}
 use Rattle.serde_json.specs.Data.{Data, boolean, string, array, object, Members, put, no_members}
 use Rattle.serde_json.specs.View.{items_of}
 use Rattle.sa_count.specs.declared.counters.Counters.{Counters}

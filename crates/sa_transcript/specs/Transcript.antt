@@ -1,5 +1,5 @@
 -- What is printed for journals: a line for each entry, session by session, each row behind the line of its End, and a last line.
-use Rattle.std.specs.Prelude.{◌≡◌, ℕ, true, ⊤, All, List, [], ◌∷◌, ◌++◌, map, length, codes, Option, None, Some}
+use Rattle.std.specs.Prelude.{◌≡◌, ℕ, true, ⊤, All, List, [], ◌∷◌, ◌++◌, map, length, codes, None, Some}
 use Rattle.std.specs.List.{flat_map}
 use Rattle.std.specs.Fmt.{signed_decimal}
 use Rattle.serde_json.specs.Data.{Data, null, boolean, number, string, array, object, put, no_members}

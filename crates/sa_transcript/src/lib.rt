@@ -3,9 +3,12 @@
 //! What `kamewhisk step` prints. docs/OUTPUT.md has the lines for whoever reads them.
 #![tactic(auto)]
 
+mod event;
 mod line;
 mod names;
 mod object;
+mod outcome;
+mod row;
 mod transcript;
 
 pub use transcript::render;

@@ -40,7 +40,12 @@ pub fn report_value(alloc: Global, report: &Report) -> Result<Json, OutOfMemory>
     let tables = tables_value(alloc, report.tables.as_slice())?;
     put(&mut members, alloc, "tables", tables)?;
     put_count(alloc, &mut members, "steps", report.steps)?;
-    put_count(alloc, &mut members, "statement", u64::from(report.statement))?;
+    put_count(
+        alloc,
+        &mut members,
+        "statement",
+        u64::from(report.statement),
+    )?;
     put_count(alloc, &mut members, "sent", report.sent)?;
     Ok(Json::Object(members))
 }

@@ -10,7 +10,12 @@ use std::alloc::Global;
 pub type Members = Map<String, Json>;
 
 /// Puts a number at a key.
-pub fn put_count(alloc: Global, members: &mut Members, key: &str, count: u64) -> Result<(), OutOfMemory>
+pub fn put_count(
+    alloc: Global,
+    members: &mut Members,
+    key: &str,
+    count: u64,
+) -> Result<(), OutOfMemory>
     ensures { OnOk result (members_view members.new.entries
         ≡ with_member key.now (number (unsigned count)) (members_view members.old.entries)) }
 {
@@ -19,7 +24,12 @@ pub fn put_count(alloc: Global, members: &mut Members, key: &str, count: u64) ->
 }
 
 /// Puts a text at a key.
-pub fn put_text(alloc: Global, members: &mut Members, key: &str, text: &str) -> Result<(), OutOfMemory>
+pub fn put_text(
+    alloc: Global,
+    members: &mut Members,
+    key: &str,
+    text: &str,
+) -> Result<(), OutOfMemory>
     ensures { OnOk result (members_view members.new.entries
         ≡ with_member key.now (string text.now) (members_view members.old.entries)) }
 {
