@@ -18,7 +18,7 @@ use Rattle.sa_plan.specs.declared.plan.Plan.{Plan}
 use Rattle.sa_explain.specs.Written.{cond_text}
 use Rattle.sa_explain.specs.Document.{count, two_decimals, quotient, access_name, with_condition, with_counters, level_members, level_data, counters_at, with_steps, nested_loop, block_members, document}
 
-abbrev Exact : Members → Type 0
+abbrev pub Exact : Members → Type 0
 Exact members = members_have_float members ≡ false
 
 neither : (a b : Bool) → a || b ≡ false → (a ≡ false) × (b ≡ false)
@@ -30,7 +30,7 @@ exact-match Less a b c at_a at_b at_c = at_a
 exact-match Equal a b c at_a at_b at_c = at_b
 exact-match Greater a b c at_a at_b at_c = at_c
 
-exact-put : (key : List ℕ) (value : Data) (members : Members) → has_float value ≡ false → Exact members → Exact (put key value members)
+pub exact-put : (key : List ℕ) (value : Data) (members : Members) → has_float value ≡ false → Exact members → Exact (put key value members)
 exact-put key value no_members is all = rw is
 exact-put key value (member other held rest) is all =
     let parts = neither (has_float held) (members_have_float rest) all in
@@ -83,7 +83,7 @@ exact-level_data : (names : List TableNames) (levels : List Level) (level : Leve
 exact-level_data names levels level counters =
     exact-put (codes "table") (object (level_members names levels level counters)) no_members (exact-level names levels level counters) refl
 
-exact-items : {A : Type 0} (f : A → Data) → ((x : A) → has_float (f x) ≡ false) → (xs : List A) → items_have_float (items_of (map f xs)) ≡ false
+pub exact-items : {A : Type 0} (f : A → Data) → ((x : A) → has_float (f x) ≡ false) → (xs : List A) → items_have_float (items_of (map f xs)) ≡ false
 exact-items f each [] = refl
 exact-items f each (x ∷ xs) = rw (each x) (exact-items f each xs)
 

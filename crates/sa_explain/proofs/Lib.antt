@@ -1,3 +1,3 @@
-mod Exact
+pub mod Exact
 mod Loops
 mod Trees

@@ -1,0 +1,5 @@
+pub mod Names
+pub mod Outcome
+pub mod Line
+pub mod Transcript
+pub mod inner
