@@ -1,3 +1,4 @@
 mod Exact
 mod Loops
 mod Trees
+mod Worked
