@@ -5,7 +5,7 @@ use Rattle.std.specs.declared.cmp.Ordering.TheVariants.{Less, Equal, Greater}
 use Rattle.std.specs.Cmp.Lexicographic.{slice_cmp}
 use Rattle.std.specs.Fmt.{decimal}
 use Rattle.std.specs.List.{enumerate_from}
-use Rattle.serde_json.specs.Data.{Data, null, string, array, object, Members, no_members, member, put}
+use Rattle.serde_json.specs.Data.{Data, null, string, object, Members, no_members, member, put}
 use Rattle.serde_json.specs.View.{items_of}
 use Rattle.serde_json.specs.Written.{has_float, items_have_float, members_have_float}
 use Rattle.sa_print.specs.Lists.{joined}
@@ -19,7 +19,7 @@ use Rattle.sa_explain.specs.Written.{cond_text}
 use Rattle.sa_explain.specs.Document.{count, two_decimals, quotient, access_name, with_condition, with_counters, level_members, level_data, counters_at, with_steps, nested_loop, block_members, document}
 
 abbrev pub Exact : Members → Type 0
-Exact members = members_have_float members ≡ false
+Exact others = members_have_float others ≡ false
 
 neither : (a b : Bool) → a || b ≡ false → (a ≡ false) × (b ≡ false)
 neither false b is = (refl, is)
@@ -30,7 +30,7 @@ exact-match Less a b c at_a at_b at_c = at_a
 exact-match Equal a b c at_a at_b at_c = at_b
 exact-match Greater a b c at_a at_b at_c = at_c
 
-pub exact-put : (key : List ℕ) (value : Data) (members : Members) → has_float value ≡ false → Exact members → Exact (put key value members)
+pub exact-put : (key : List ℕ) (value : Data) (others : Members) → has_float value ≡ false → Exact others → Exact (put key value others)
 exact-put key value no_members is all = rw is
 exact-put key value (member other held rest) is all =
     let parts = neither (has_float held) (members_have_float rest) all in
@@ -45,22 +45,22 @@ exact-quotient hundredths divisor =
       | false ↦ refl
     ]
 
-exact-condition : (names : List TableNames) (levels : List Level) (conditions : List Cond) (members : Members)
-    → Exact members → Exact (with_condition names levels conditions members)
-exact-condition names levels [] members all = all
-exact-condition names levels (first ∷ rest) members all =
-    exact-put (codes "attached_condition") (string (joined (codes " AND ") (map (cond_text names levels) (first ∷ rest)))) members refl all
+exact-condition : (names : List TableNames) (levels : List Level) (conditions : List Cond) (others : Members)
+    → Exact others → Exact (with_condition names levels conditions others)
+exact-condition names levels [] others all = all
+exact-condition names levels (first ∷ rest) others all =
+    exact-put (codes "attached_condition") (string (joined (codes " AND ") (map (cond_text names levels) (first ∷ rest)))) others refl all
 
-exact-counters : (counters : Option Counters) (members : Members) → Exact members → Exact (with_counters counters members)
-exact-counters None members all = all
-exact-counters (Some counters) members all =
+exact-counters : (counters : Option Counters) (others : Members) → Exact others → Exact (with_counters counters others)
+exact-counters None others all = all
+exact-counters (Some counters) others all =
     let rows_each : Data = quotient (100 * counters.rows) counters.loops in
     let filtered : Data = quotient (10000 * counters.passed) counters.rows in
-    let with_rows : Members = put (codes "r_total_rows") (count counters.rows) members in
+    let with_rows : Members = put (codes "r_total_rows") (count counters.rows) others in
     let with_passed : Members = put (codes "r_total_passed") (count counters.passed) with_rows in
     let with_each : Members = put (codes "r_rows") rows_each with_passed in
     let with_loops : Members = put (codes "r_loops") (count counters.loops) with_each in
-    let at_rows : Exact with_rows = exact-put (codes "r_total_rows") (count counters.rows) members refl all in
+    let at_rows : Exact with_rows = exact-put (codes "r_total_rows") (count counters.rows) others refl all in
     let at_passed : Exact with_passed = exact-put (codes "r_total_passed") (count counters.passed) with_rows refl at_rows in
     let at_each : Exact with_each = exact-put (codes "r_rows") rows_each with_passed (exact-quotient (100 * counters.rows) counters.loops) at_passed in
     let at_loops : Exact with_loops = exact-put (codes "r_loops") (count counters.loops) with_each refl at_each in
@@ -93,11 +93,11 @@ exact-nested_loop names levels report =
     (λ numbered. exact-level_data names levels numbered.1 (counters_at report numbered.0))
     (enumerate_from 0 levels)
 
-exact-steps : (report : Option Report) (members : Members) → Exact members → Exact (with_steps report members)
-exact-steps None members all = all
-exact-steps (Some report) members all =
-    let with_made : Members = put (codes "r_steps") (count report.steps) members in
-    let at_made : Exact with_made = exact-put (codes "r_steps") (count report.steps) members refl all in
+exact-steps : (report : Option Report) (others : Members) → Exact others → Exact (with_steps report others)
+exact-steps None others all = all
+exact-steps (Some report) others all =
+    let with_made : Members = put (codes "r_steps") (count report.steps) others in
+    let at_made : Exact with_made = exact-put (codes "r_steps") (count report.steps) others refl all in
     exact-put (codes "r_sent") (count report.sent) with_made refl at_made
 
 exact-block : (names : List TableNames) (plan : Plan) (report : Option Report) → Exact (block_members names plan report)

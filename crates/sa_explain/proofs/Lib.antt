@@ -1,3 +1,4 @@
 pub mod Exact
 mod Loops
 mod Trees
+mod Worked

@@ -1,5 +1,5 @@
 -- The texts of AND and OR, of a statement's tree and of a plan's condition.
-use Rattle.std.proofs.Common.{◌≡◌, ℕ, List, map, codes, sym, ap, ◌∙◌}
+use Rattle.std.proofs.Common.{◌≡◌, List, map, codes, sym, ap, ◌∙◌}
 use Rattle.sa_ast.specs.declared.expression.ExprNode.TheVariants as node
 use Rattle.sa_ast.specs.declared.expression.ExprTree.{ExprTree, the_lemmas as tree_lemmas}
 use Rattle.sa_print.specs.Expression.{canonical_expr}

@@ -1,6 +1,6 @@
 -- The document of a plan, and of a run of it.
 -- Source of the names: MariaDB Knowledge Base, "EXPLAIN FORMAT=JSON" and "ANALYZE FORMAT=JSON".
-use Rattle.std.specs.Prelude.{◌≡◌, ℕ, ◌*◌, ◌/◌, ◌%◌, ◌==◌, List, [], ◌∷◌, ◌++◌, map, codes, length, slice_get, Option, None, Some, option_and_then, if◌then◌else◌}
+use Rattle.std.specs.Prelude.{◌≡◌, ℕ, ◌*◌, ◌/◌, ◌%◌, ◌==◌, List, [], ◌∷◌, ◌++◌, map, codes, slice_get, Option, None, Some, option_and_then, if◌then◌else◌}
 use Rattle.std.specs.Fmt.{decimal}
 use Rattle.std.specs.List.{enumerate_from}
 use Rattle.serde_json.specs.Data.{Data, unsigned, null, number, string, array, object, Members, put, no_members}
