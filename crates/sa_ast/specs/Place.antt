@@ -23,7 +23,8 @@ unplaced_name name = record name { place = 0 }
 
 -- an expression: the same nodes, each at 0
 abbrev pub unplaced_expr : ExprTree → ExprTree
-unplaced_expr = fold-ExprTree ExprNode ExprTree roll-ExprNode (λ tree. roll-ExprTree (record tree { place = 0 }))
+unplaced_expr = fold-ExprTree ExprNode ExprTree roll-ExprNode
+    (λ tree. roll-ExprTree (record tree { place = 0 }))
 
 -- what a part of the select list asks for
 abbrev pub unplaced_node : ItemNode → ItemNode
@@ -38,7 +39,11 @@ unplaced_item item = record { item = unplaced_node item.item; place = 0 }
 -- a table of FROM
 abbrev pub unplaced_table : TableTree → TableTree
 unplaced_table table =
-    record table { name = unplaced_name table.name; alias = option_map unplaced_name table.alias; on = option_map unplaced_expr table.on }
+    record table {
+      name = unplaced_name table.name;
+      alias = option_map unplaced_name table.alias;
+      on = option_map unplaced_expr table.on;
+    }
 
 -- an item of GROUP BY
 abbrev pub unplaced_group : GroupTree → GroupTree

@@ -48,10 +48,12 @@ IsThere has_column has_slot (slot number) = has_slot number
 
 -- A cell that is named meets its kind.
 abbrev pub MeetsName : CellKinds → Choice → Name → Type 0
-MeetsName kinds choice (column table number) = MeetsKind (kinds.column table number) (choice.cell table number)
+MeetsName kinds choice (column table number) =
+    MeetsKind (kinds.column table number) (choice.cell table number)
 MeetsName kinds choice (slot number) = MeetsKind (kinds.slot number) (choice.slot number)
 
--- An expression can be evaluated: with kinds that its cells meet it is well-typed, and its arithmetic stays in the range of BIGINT.
+-- An expression can be evaluated: with kinds that its cells meet it is well-typed, and its
+-- arithmetic stays in the range of BIGINT.
 pub record CanEvaluate (choice : Choice) (expr : Expr) : Type 0 where
   pub kinds : CellKinds
   pub met : All (MeetsName kinds choice) (expr_names expr)

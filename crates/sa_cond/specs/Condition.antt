@@ -38,12 +38,14 @@ among value list = any_of (map (truth_of Eq value) list)
 -- One node, with the truth of each condition below in its place.
 abbrev pub node_truth : Choice → Cond-F Truth → Truth
 node_truth choice (Cond-F.Known truth) = truth
-node_truth choice (Cond-F.Compare op left right) = truth_of op (expr_value choice left) (expr_value choice right)
+node_truth choice (Cond-F.Compare op left right) =
+    truth_of op (expr_value choice left) (expr_value choice right)
 node_truth choice (Cond-F.IsNull x) = known (is_null (expr_value choice x))
 node_truth choice (Cond-F.NotNull x) = known (not (is_null (expr_value choice x)))
 node_truth choice (Cond-F.Between value low high) =
     between (expr_value choice value) (expr_value choice low) (expr_value choice high)
-node_truth choice (Cond-F.Among value list) = among (expr_value choice value) (map (expr_value choice) list)
+node_truth choice (Cond-F.Among value list) =
+    among (expr_value choice value) (map (expr_value choice) list)
 node_truth choice (Cond-F.And members) = all_of members
 node_truth choice (Cond-F.Or members) = any_of members
 node_truth choice (Cond-F.Not x) = negation x

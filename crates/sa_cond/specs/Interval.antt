@@ -17,8 +17,8 @@ pub record Interval : Type 0 where
   pub least : ℤ
   pub greatest : ℤ
 
--- An expression gives a number of an interval, a sum that may leave it, a text, or NULL alone. It is none of these where its
--- arithmetic is over a text or a sum, or leaves the range of BIGINT.
+-- An expression gives a number of an interval, a sum that may leave it, a text, or NULL alone. It
+-- is none of these where its arithmetic is over a text or a sum, or leaves the range of BIGINT.
 pub data ExprKind : Type 0 where
   number : (interval : Interval) → ExprKind
   sum : ExprKind
@@ -58,7 +58,8 @@ abbrev pub reached : Option Interval → ExprKind
 reached None = faulty
 reached (Some interval) = number_within interval
 
-abbrev pub of_both : (Interval → Interval → Interval) → Option Interval → Option Interval → Option Interval
+abbrev pub of_both : (Interval → Interval → Interval) → Option Interval → Option Interval
+    → Option Interval
 of_both operation None right = None
 of_both operation (Some left) None = None
 of_both operation (Some left) (Some right) = Some (operation left right)
@@ -85,7 +86,8 @@ multiplied x y =
 
 -- the kind of a cell
 abbrev pub kind_of_cell : CellKind → ExprKind
-kind_of_cell (cells.Number least greatest) = number_within (record { least = least; greatest = greatest })
+kind_of_cell (cells.Number least greatest) =
+    number_within (record { least = least; greatest = greatest })
 kind_of_cell cells.Sum = sum
 kind_of_cell cells.Text = text
 

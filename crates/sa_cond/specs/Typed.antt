@@ -29,19 +29,22 @@ can_compare left right = true
 -- One node, with whether each condition below is well-typed in its place.
 abbrev pub node_typed : CellKinds → Cond-F Bool → Bool
 node_typed kinds (Cond-F.Known truth) = true
-node_typed kinds (Cond-F.Compare op left right) = can_compare (expr_kind kinds left) (expr_kind kinds right)
+node_typed kinds (Cond-F.Compare op left right) =
+    can_compare (expr_kind kinds left) (expr_kind kinds right)
 node_typed kinds (Cond-F.IsNull x) = is_proper (expr_kind kinds x)
 node_typed kinds (Cond-F.NotNull x) = is_proper (expr_kind kinds x)
 node_typed kinds (Cond-F.Between value low high) =
-    can_compare (expr_kind kinds value) (expr_kind kinds low) && can_compare (expr_kind kinds value) (expr_kind kinds high)
+    can_compare (expr_kind kinds value) (expr_kind kinds low)
+    && can_compare (expr_kind kinds value) (expr_kind kinds high)
 node_typed kinds (Cond-F.Among value list) =
-    is_proper (expr_kind kinds value) && list_all (λ member. can_compare (expr_kind kinds value) (expr_kind kinds member)) list
+    is_proper (expr_kind kinds value)
+    && list_all (λ member. can_compare (expr_kind kinds value) (expr_kind kinds member)) list
 node_typed kinds (Cond-F.And members) = list_all (λ typed. typed) members
 node_typed kinds (Cond-F.Or members) = list_all (λ typed. typed) members
 node_typed kinds (Cond-F.Not x) = x
 
--- Whether a condition is well-typed: each comparison in it is of two numbers, of two texts or has a literal NULL, and each
--- arithmetic expression in it has a static interval.
+-- Whether a condition is well-typed: each comparison in it is of two numbers, of two texts or has a
+-- literal NULL, and each arithmetic expression in it has a static interval.
 abbrev pub is_well_typed : CellKinds → Cond → Bool
 is_well_typed kinds = fold-Cond Bool (node_typed kinds)
 

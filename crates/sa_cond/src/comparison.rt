@@ -16,8 +16,10 @@ use sa_value::{CompareOp, Truth, compare};
 /// The truth of a comparison of two expressions.
 #[inline(always)]
 pub(crate) fn compared<R: Cells>(op: CompareOp, left: &Expr, right: &Expr, rows: &R) -> Truth
-    requires left_there { All (IsThere (R.has_cell rows.now) (R.has_slot rows.now)) (expr_names left.now) }
-    requires right_there { All (IsThere (R.has_cell rows.now) (R.has_slot rows.now)) (expr_names right.now) }
+    requires left_there { All (IsThere (R.has_cell rows.now) (R.has_slot rows.now))
+        (expr_names left.now) }
+    requires right_there { All (IsThere (R.has_cell rows.now) (R.has_slot rows.now))
+        (expr_names right.now) }
     requires typed { CanRelate (record { cell = R.cell_of rows.now; slot = R.slot_of rows.now })
         left.now right.now }
     ensures { result ≡ truth_of op
@@ -38,8 +40,10 @@ pub(crate) fn compared_with<R: Cells>(
 ) -> Truth
     requires number_is { number ≡ small_number
         (expr_value (record { cell = R.cell_of rows.now; slot = R.slot_of rows.now }) left.now) }
-    requires left_there { All (IsThere (R.has_cell rows.now) (R.has_slot rows.now)) (expr_names left.now) }
-    requires right_there { All (IsThere (R.has_cell rows.now) (R.has_slot rows.now)) (expr_names right.now) }
+    requires left_there { All (IsThere (R.has_cell rows.now) (R.has_slot rows.now))
+        (expr_names left.now) }
+    requires right_there { All (IsThere (R.has_cell rows.now) (R.has_slot rows.now))
+        (expr_names right.now) }
     requires typed { CanRelate (record { cell = R.cell_of rows.now; slot = R.slot_of rows.now })
         left.now right.now }
     ensures { result ≡ truth_of op
@@ -69,8 +73,10 @@ pub(crate) fn compare_numbers(op: CompareOp, left: i64, right: i64) -> Truth
 /// The truth of a comparison where an operand is NULL, a text or a sum.
 #[inline(never)]
 pub(crate) fn compare_values<R: Cells>(op: CompareOp, left: &Expr, right: &Expr, rows: &R) -> Truth
-    requires left_there { All (IsThere (R.has_cell rows.now) (R.has_slot rows.now)) (expr_names left.now) }
-    requires right_there { All (IsThere (R.has_cell rows.now) (R.has_slot rows.now)) (expr_names right.now) }
+    requires left_there { All (IsThere (R.has_cell rows.now) (R.has_slot rows.now))
+        (expr_names left.now) }
+    requires right_there { All (IsThere (R.has_cell rows.now) (R.has_slot rows.now))
+        (expr_names right.now) }
     requires typed { CanRelate (record { cell = R.cell_of rows.now; slot = R.slot_of rows.now })
         left.now right.now }
     ensures { result ≡ truth_of op

@@ -56,7 +56,8 @@ impl Ends {
 
     /// The interval of a negation.
     pub(crate) fn negated(self) -> Option<Ends>
-        ensures { option_map interval_at result ≡ interval_of (number_within (negated (interval_at self))) }
+        ensures { option_map interval_at result
+            ≡ interval_of (number_within (negated (interval_at self))) }
     {
         Ends::within(-i128::from(self.greatest), -i128::from(self.least))
     }

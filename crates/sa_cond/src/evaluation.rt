@@ -15,8 +15,10 @@ use sa_value::Truth;
 #[cycle(eval)]
 pub fn eval<R: Cells>(cond: &Cond, rows: &R) -> Truth
     requires there { All (IsThere (R.has_cell rows.now) (R.has_slot rows.now)) (cond_names cond.now) }
-    requires typed { CanTest (record { cell = R.cell_of rows.now; slot = R.slot_of rows.now }) cond.now }
-    ensures { result ≡ holds (record { cell = R.cell_of rows.now; slot = R.slot_of rows.now }) cond.now }
+    requires typed { CanTest
+        (record { cell = R.cell_of rows.now; slot = R.slot_of rows.now }) cond.now }
+    ensures { result
+        ≡ holds (record { cell = R.cell_of rows.now; slot = R.slot_of rows.now }) cond.now }
 {
     match cond {
         Cond::Known(truth) => *truth,

@@ -28,9 +28,12 @@ pub(crate) fn is_null<R: Cells>(expr: &Expr, rows: &R) -> bool
 
 /// The truth of BETWEEN.
 pub(crate) fn between<R: Cells>(value: &Expr, low: &Expr, high: &Expr, rows: &R) -> Truth
-    requires value_there { All (IsThere (R.has_cell rows.now) (R.has_slot rows.now)) (expr_names value.now) }
-    requires low_there { All (IsThere (R.has_cell rows.now) (R.has_slot rows.now)) (expr_names low.now) }
-    requires high_there { All (IsThere (R.has_cell rows.now) (R.has_slot rows.now)) (expr_names high.now) }
+    requires value_there { All (IsThere (R.has_cell rows.now) (R.has_slot rows.now))
+        (expr_names value.now) }
+    requires low_there { All (IsThere (R.has_cell rows.now) (R.has_slot rows.now))
+        (expr_names low.now) }
+    requires high_there { All (IsThere (R.has_cell rows.now) (R.has_slot rows.now))
+        (expr_names high.now) }
     requires low_typed { CanRelate (record { cell = R.cell_of rows.now; slot = R.slot_of rows.now })
         value.now low.now }
     requires high_typed { CanRelate (record { cell = R.cell_of rows.now; slot = R.slot_of rows.now })
@@ -47,7 +50,8 @@ pub(crate) fn between<R: Cells>(value: &Expr, low: &Expr, high: &Expr, rows: &R)
 
 /// The truth of IN.
 pub(crate) fn among<R: Cells>(value: &Expr, list: &[Expr], rows: &R) -> Truth
-    requires value_there { All (IsThere (R.has_cell rows.now) (R.has_slot rows.now)) (expr_names value.now) }
+    requires value_there { All (IsThere (R.has_cell rows.now) (R.has_slot rows.now))
+        (expr_names value.now) }
     requires value_typed { CanEvaluate (record { cell = R.cell_of rows.now; slot = R.slot_of rows.now })
         value.now }
     requires there { All (λ member. All (IsThere (R.has_cell rows.now) (R.has_slot rows.now))

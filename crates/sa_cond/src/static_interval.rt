@@ -13,7 +13,8 @@ use crate::expr::Expr;
 /// There is none where the expression or a part of it is a text or leaves the range of BIGINT, as a sum
 /// may.
 pub fn interval<K: Kinds>(expr: &Expr, kinds: &K) -> Option<(i128, i128)>
-    requires there { All (IsThere (K.has_column kinds.now) (K.has_slot kinds.now)) (expr_names expr.now) }
+    requires there { All (IsThere (K.has_column kinds.now) (K.has_slot kinds.now))
+        (expr_names expr.now) }
     ensures exact { result ≡ option_map (λ interval. (interval.least, interval.greatest))
         (static_interval (record { column = K.column_kind kinds.now; slot = K.slot_kind kinds.now })
         expr.now) }
@@ -24,7 +25,8 @@ pub fn interval<K: Kinds>(expr: &Expr, kinds: &K) -> Option<(i128, i128)>
 
 /// The same as ends of 64 bits.
 fn ends<K: Kinds>(expr: &Expr, kinds: &K) -> Option<Ends>
-    requires there { All (IsThere (K.has_column kinds.now) (K.has_slot kinds.now)) (expr_names expr.now) }
+    requires there { All (IsThere (K.has_column kinds.now) (K.has_slot kinds.now))
+        (expr_names expr.now) }
     ensures { option_map interval_at result
         ≡ static_interval (record { column = K.column_kind kinds.now; slot = K.slot_kind kinds.now })
         expr.now }

@@ -16,7 +16,8 @@ pub fn value_of<'a, R: Cells>(expr: &'a Expr, rows: &'a R) -> ValueRef<'a>
     requires there { All (IsThere (R.has_cell rows.now) (R.has_slot rows.now)) (expr_names expr.now) }
     requires typed { CanEvaluate (record { cell = R.cell_of rows.now; slot = R.slot_of rows.now })
         expr.now }
-    ensures { value_at result ≡ expr_value (record { cell = R.cell_of rows.now; slot = R.slot_of rows.now })
+    ensures { value_at result
+        ≡ expr_value (record { cell = R.cell_of rows.now; slot = R.slot_of rows.now })
         expr.now }
 {
     match expr {

@@ -37,7 +37,8 @@ queued phase request = phase
 
 -- The actor's request is taken out of the queue.
 abbrev pub taken_out : Phase → ℕ → Phase
-taken_out (planned statement execution) actor = planned statement (record execution { queue = without actor execution.queue })
+taken_out (planned statement execution) actor =
+    planned statement (record execution { queue = without actor execution.queue })
 taken_out phase actor = phase
 
 -- Where others still wait, they are served next.
@@ -50,16 +51,21 @@ abbrev pub first_owed : Option (ℕ × ℕ) → ℕ × ℕ → Option (ℕ × �
 first_owed None last = Some last
 first_owed (Some first) last = Some first
 
--- The oldest request is served with this number of steps. Where that isn't a quantum more than it was queued at, the End has it.
+-- The oldest request is served with this number of steps. Where that isn't a quantum more than it
+-- was queued at, the End has it.
 abbrev pub served : ℕ → Statement → Execution → List Request → ℕ → ℕ → Phase
 served quantum statement execution [] steps turn = planned statement execution
 served quantum statement execution (first ∷ rest) steps turn =
-    let owed : Option (ℕ × ℕ) = if steps == first.at + quantum then execution.owed else first_owed execution.owed (steps, turn) in
-    still_serving statement (record execution { shown = steps; queue = rest; owed = owed }) rest steps turn
+    let owed : Option (ℕ × ℕ) = if steps == first.at + quantum then execution.owed
+    else first_owed execution.owed (steps, turn) in
+    still_serving statement
+    (record execution { shown = steps; queue = rest; owed = owed }) rest steps turn
 
 abbrev pub after_serving : ℕ → Phase → ℕ → ℕ → Phase
-after_serving quantum (planned statement execution) steps turn = served quantum statement execution execution.queue steps turn
-after_serving quantum (serving statement execution number at) steps turn = served quantum statement execution execution.queue steps turn
+after_serving quantum (planned statement execution) steps turn =
+    served quantum statement execution execution.queue steps turn
+after_serving quantum (serving statement execution number at) steps turn =
+    served quantum statement execution execution.queue steps turn
 after_serving quantum phase steps turn = phase
 
 -- the number of the Begin entry of the statement that is on
@@ -83,20 +89,32 @@ dooms Connection = true
 -- The state after this event.
 abbrev pub after_event : Terms → State → Entry → Event → State
 after_event terms state entry (Begin number text version plan tables) =
-    let statement : Statement = record { number = number; begin = entry.seq; turn = entry.turn; killed = false } in
+    let statement : Statement =
+    record { number = number; begin = entry.seq; turn = entry.turn; killed = false } in
     record state { phase = begun statement plan tables }
 after_event terms state entry (Queued number kind at budget) =
-    record state { phase = queued state.phase (record { asker = entry.actor; request = number; at = at }) }
+    record state {
+      phase = queued state.phase
+          (record { asker = entry.actor; request = number; at = at });
+    }
 after_event terms state entry (Served asker number report) =
-    let reply : Reply = record { asker = asker; request = number; report = report; begin = begin_of state.phase } in
-    record state { phase = after_serving terms.quantum state.phase report.steps entry.turn; replies = state.replies ++ reply ∷ [] }
-after_event terms state entry (Taken number) = record state { replies = untaken entry.actor state.replies }
-after_event terms state entry (Spent number turns) = record state { phase = taken_out state.phase entry.actor }
-after_event terms state entry (Withdrawn number) = record state { phase = taken_out state.phase entry.actor }
+    let reply : Reply =
+    record { asker = asker; request = number; report = report; begin = begin_of state.phase } in
+    record state {
+      phase = after_serving terms.quantum state.phase report.steps entry.turn;
+      replies = state.replies ++ reply ∷ [];
+    }
+after_event terms state entry (Taken number) =
+    record state { replies = untaken entry.actor state.replies }
+after_event terms state entry (Spent number turns) =
+    record state { phase = taken_out state.phase entry.actor }
+after_event terms state entry (Withdrawn number) =
+    record state { phase = taken_out state.phase entry.actor }
 after_event terms state entry (KillSent number kind) =
     record state { phase = killed state.phase; doomed = state.doomed || dooms kind }
 after_event terms state entry (Waited number steps) = record state { phase = showing state.phase steps }
-after_event terms state entry (WaitSpent number steps turns) = record state { phase = showing state.phase steps }
+after_event terms state entry (WaitSpent number steps turns) =
+    record state { phase = showing state.phase steps }
 after_event terms state entry (End number outcome steps) = record state { phase = idle }
 after_event terms state entry Close = record state { phase = closed }
 -- a refusal and a Gone leave all as it was

@@ -4,7 +4,8 @@ use Rattle.sa_desk.specs.declared.entry.Entry.{Entry}
 use Rattle.sa_desk.specs.declared.entry.Event.{Event}
 use Rattle.sa_desk.specs.declared.entry.Event.TheVariants.{Queued, Served}
 
--- An entry costs one. A Queued costs two, and so pays for the Served entry that answers it, which costs nothing.
+-- An entry costs one. A Queued costs two, and so pays for the Served entry that answers it, which
+-- costs nothing.
 abbrev pub cost : Event → ℕ
 cost (Queued number kind at budget) = 2
 cost (Served asker number report) = 0

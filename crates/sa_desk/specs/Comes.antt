@@ -22,14 +22,17 @@ IsVersion version = version ≡ 0
 
 -- The actor's request of this number waits, or was served.
 abbrev pub IsQueued : ℕ → ℕ → List Request → Type 0
-IsQueued actor number queue = Any (λ request. (request.asker ≡ actor) × (request.request ≡ number)) queue
+IsQueued actor number queue =
+    Any (λ request. (request.asker ≡ actor) × (request.request ≡ number)) queue
 
 abbrev pub IsServed : ℕ → ℕ → List Reply → Type 0
 IsServed actor number replies = Any (λ reply. (reply.asker ≡ actor) × (reply.request ≡ number)) replies
 
--- The oldest request is served, at the end of the turn after the one that it was queued in, or by the statement's End in
--- that turn: so with a quantum more steps than it was queued at, or with as many as the End then has, which lie between.
-pub record Serves (terms : Terms) (statement : Statement) (execution : Execution) (first : Request) (entry : Entry) (asker number : ℕ) (report : Report) : Type 0 where
+-- The oldest request is served, at the end of the turn after the one that it was queued in, or by
+-- the statement's End in that turn: so with a quantum more steps than it was queued at, or with as
+-- many as the End then has, which lie between.
+pub record Serves (terms : Terms) (statement : Statement) (execution : Execution) (first : Request)
+    (entry : Entry) (asker number : ℕ) (report : Report) : Type 0 where
   pub own : IsOwn terms entry
   pub asked : (first.asker ≡ asker) × (first.request ≡ number)
   pub turn : entry.turn ≡ statement.turn + first.at / terms.quantum + 1
@@ -39,15 +42,18 @@ pub record Serves (terms : Terms) (statement : Statement) (execution : Execution
 
 abbrev pub ServesFirst : Terms → Statement → Execution → List Request → Entry → ℕ → ℕ → Report → Type 0
 ServesFirst terms statement execution [] entry asker number report = ⊥
-ServesFirst terms statement execution (first ∷ rest) entry asker number report = Serves terms statement execution first entry asker number report
+ServesFirst terms statement execution (first ∷ rest) entry asker number report =
+    Serves terms statement execution first entry asker number report
 
 -- An End is of the statement that is on, and is Interrupted exactly where that was killed.
-pub record Ends (terms : Terms) (statement : Statement) (entry : Entry) (number : ℕ) (interrupted : Type 0) : Type 0 where
+pub record Ends (terms : Terms) (statement : Statement) (entry : Entry) (number : ℕ)
+    (interrupted : Type 0) : Type 0 where
   pub own : IsOwn terms entry
   pub on : number ≡ statement.number
   pub killed : interrupted ↔ (statement.killed ≡ true)
 
--- An End of a run leaves nobody waiting, and has the steps and the turn that a served request has fixed.
+-- An End of a run leaves nobody waiting, and has the steps and the turn that a served request has
+-- fixed.
 pub record Settles (execution : Execution) (entry : Entry) (steps : ℕ) : Type 0 where
   pub served : execution.queue ≡ []
   pub rising : execution.shown ≤ steps
@@ -62,7 +68,8 @@ ComesIn terms state entry idle (Gone number) = IsOwn terms entry × (state.doome
 ComesIn terms state entry phase (Gone number) = ⊥
 -- a request
 ComesIn terms state entry (planned statement execution) (Queued number kind at budget) =
-    HasNone entry.actor state.phase state.replies × IsPublished terms.quantum execution at × (budget ≡ terms.turns)
+    HasNone entry.actor state.phase state.replies × IsPublished terms.quantum execution at
+    × (budget ≡ terms.turns)
 ComesIn terms state entry phase (Queued number kind at budget) = ⊥
 ComesIn terms state entry idle (Refused number NotExplainable) = ⊤
 ComesIn terms state entry (unplanned statement) (Refused number NotExplainable) = ⊤
@@ -72,14 +79,17 @@ ComesIn terms state entry phase (Refused number why) = ⊥
 ComesIn terms state entry (planned statement execution) (Served asker number report) =
     ServesFirst terms statement execution execution.queue entry asker number report
 ComesIn terms state entry (serving statement execution steps turn) (Served asker number report) =
-    ServesFirst terms statement execution execution.queue entry asker number report × (report.steps ≡ steps) × (entry.turn ≡ turn)
+    ServesFirst terms statement execution execution.queue entry asker number report
+    × (report.steps ≡ steps) × (entry.turn ≡ turn)
 ComesIn terms state entry phase (Served asker number report) = ⊥
 -- its end
 ComesIn terms state entry (serving statement execution steps turn) (Taken number) = ⊥
 ComesIn terms state entry phase (Taken number) = IsServed entry.actor number state.replies
-ComesIn terms state entry (planned statement execution) (Spent number turns) = IsQueued entry.actor number execution.queue × (turns ≡ terms.turns)
+ComesIn terms state entry (planned statement execution) (Spent number turns) =
+    IsQueued entry.actor number execution.queue × (turns ≡ terms.turns)
 ComesIn terms state entry phase (Spent number turns) = ⊥
-ComesIn terms state entry (planned statement execution) (Withdrawn number) = IsQueued entry.actor number execution.queue
+ComesIn terms state entry (planned statement execution) (Withdrawn number) =
+    IsQueued entry.actor number execution.queue
 ComesIn terms state entry phase (Withdrawn number) = ⊥
 -- a kill
 ComesIn terms state entry (serving statement execution steps turn) (KillSent number kind) = ⊥

@@ -8,8 +8,9 @@ use Rattle.sa_desk.specs.State.{Terms, Phase, State, IsLawful}
 use Rattle.sa_desk.specs.Runs.{state_of, IsDeskRun, IsEntryOf}
 use Rattle.sa_desk.specs.Charge.{charge}
 
--- A desk has its terms and each session's share of its journal. All else that it says of its session follows from the
--- journal, but for the number of steps that it publishes and what each session has counted here.
+-- A desk has its terms and each session's share of its journal. All else that it says of its
+-- session follows from the journal, but for the number of steps that it publishes and what each
+-- session has counted here.
 pub record Contents : Type 0 where
   pub terms : Terms
   pub shares : List ℕ
@@ -30,7 +31,8 @@ phase desk = (state desk).phase
 
 -- no session's entries cost more than its share
 abbrev pub IsWithinShares : List ℕ → List Entry → Type 0
-IsWithinShares shares journal = (session : ℕ) → session < length shares → charge (session + 1) journal ≤ slice_index shares session
+IsWithinShares shares journal = (session : ℕ) → session < length shares
+    → charge (session + 1) journal ≤ slice_index shares session
 
 -- An open wait has looked less often than it lasts.
 abbrev pub IsPatient : ℕ → Option OpenWait → Type 0
@@ -63,7 +65,8 @@ HasNumbers stamp = stamp.seq + 18 ≤ 2 ^ 32
 
 -- With these entries the actor stays within its share.
 abbrev pub HasRoom : Contents → ℕ → List Entry → Type 0
-HasRoom desk actor entries = charge actor (desk.journal ++ entries) ≤ slice_index desk.shares (actor - 1)
+HasRoom desk actor entries =
+    charge actor (desk.journal ++ entries) ≤ slice_index desk.shares (actor - 1)
 
 -- The caller is the desk's own session.
 abbrev pub IsOwner : Contents → Stamp → Type 0
@@ -71,7 +74,14 @@ IsOwner desk stamp = stamp.actor ≡ desk.terms.desk
 
 -- an entry of the caller
 abbrev pub entry_by : Contents → Stamp → Event → Entry
-entry_by desk stamp event = record { desk = desk.terms.desk; actor = stamp.actor; seq = stamp.seq; turn = stamp.turn; event = event }
+entry_by desk stamp event =
+    record {
+      desk = desk.terms.desk;
+      actor = stamp.actor;
+      seq = stamp.seq;
+      turn = stamp.turn;
+      event = event;
+    }
 
 -- the stamp of the entries after so many
 abbrev pub later : ℕ → Stamp → Stamp

@@ -2,7 +2,8 @@
 use Rattle.std.specs.Prelude.{◌≡◌, ℕ, ◌+◌, ◌<◌, ◌≤◌, List, [], length, slice_index_or, replicate, None, All}
 use Rattle.sa_desk.specs.Contents.{Contents, IsSound}
 
--- At most 16 sessions have a share, of at most 65,536 entries each. A turn has 1 to 64 steps, and a request lasts a turn at least.
+-- At most 16 sessions have a share, of at most 65,536 entries each. A turn has 1 to 64 steps, and a
+-- request lasts a turn at least.
 pub record MayMake (quantum turns : ℕ) (shares : List ℕ) : Type 0 where
   pub sessions : length shares ≤ 16
   pub small : All (λ share. share ≤ 65536) shares
@@ -34,4 +35,5 @@ pub record AreNew (desks : List Contents) : Type 0 where
   pub few : length desks ≤ 16
   pub sound : (index : ℕ) → index < length desks → IsSound (slice_index_or desks index no_desk)
   pub new : (index : ℕ) → index < length desks → IsNew (index + 1) (slice_index_or desks index no_desk)
-  pub shares : (index : ℕ) → index < length desks → length (slice_index_or desks index no_desk).shares ≡ length desks
+  pub shares : (index : ℕ) → index < length desks
+      → length (slice_index_or desks index no_desk).shares ≡ length desks

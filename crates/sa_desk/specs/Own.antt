@@ -8,8 +8,9 @@ use Rattle.sa_desk.specs.declared.entry.Event.TheVariants.{Begin, Queued, Taken,
 use Rattle.sa_desk.specs.State.{Phase, idle, unplanned, planned, serving, closed, State, HasNone, queue_of}
 use Rattle.sa_desk.specs.Comes.{IsQueued, IsServed}
 
--- A phase without what the entries of others change of it: nothing is on, a statement without a plan is, or one that runs a plan,
--- each by its number and by the number and the turn of its Begin entry, or the session is done.
+-- A phase without what the entries of others change of it: nothing is on, a statement without a
+-- plan is, or one that runs a plan, each by its number and by the number and the turn of its Begin
+-- entry, or the session is done.
 pub data Outline : Type 0 where
   free : Outline
   plainly : (number begin turn : ℕ) → Outline
@@ -19,8 +20,10 @@ pub data Outline : Type 0 where
 abbrev pub outline : Phase → Outline
 outline idle = free
 outline (unplanned statement) = plainly statement.number statement.begin statement.turn
-outline (planned statement execution) = running statement.number statement.begin statement.turn execution.plan execution.tables
-outline (serving statement execution steps turn) = running statement.number statement.begin statement.turn execution.plan execution.tables
+outline (planned statement execution) =
+    running statement.number statement.begin statement.turn execution.plan execution.tables
+outline (serving statement execution steps turn) =
+    running statement.number statement.begin statement.turn execution.plan execution.tables
 outline closed = over
 
 -- A statement has just begun, with a plan over tables or without.

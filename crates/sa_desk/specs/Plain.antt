@@ -22,7 +22,8 @@ is_numbered session number entry = entry.actor == session && entry.seq == number
 -- a session's entries on all desks, in the order of their numbers
 abbrev pub entries_of : Plain → ℕ → List Entry
 entries_of plain session =
-    flat_map (λ number. filter (is_numbered session number) (all_entries plain.desks)) (range_with_len 1 (slice_index plain.made (session - 1)))
+    flat_map (λ number. filter (is_numbered session number) (all_entries plain.desks))
+    (range_with_len 1 (slice_index plain.made (session - 1)))
 
 -- the desk with this number
 abbrev pub desk_at : Plain → ℕ → Contents
@@ -38,7 +39,8 @@ are_there plain desk session = is_there plain desk && is_there plain session
 
 -- what a session has counted at a desk: nothing where either isn't there
 abbrev pub quiet_at : Plain → (session desk : ℕ) → Quiet
-quiet_at plain session desk = if are_there plain desk session then quiet_of (desk_at plain desk) session else no_quiet
+quiet_at plain session desk =
+    if are_there plain desk session then quiet_of (desk_at plain desk) session else no_quiet
 
 -- All desks may be called for all sessions, and each session has seen all there is.
 abbrev pub world_of : Plain → World
@@ -56,10 +58,13 @@ world_of plain = record {
 abbrev pub SameDesks : Plain → Plain → Type 0
 SameDesks before later = length later.desks ≡ length before.desks
 
--- A session's entries on a desk are those of its own that stand there, and they are numbered 1, 2 and so on.
+-- A session's entries on a desk are those of its own that stand there, and they are numbered 1, 2
+-- and so on.
 pub record AreOwn (plain : Plain) (session : ℕ) : Type 0 where
-  pub own : (desk : ℕ) → 1 ≤ desk → desk ≤ length plain.desks → made_by session (desk_at plain desk).journal ≡ standing_on desk (entries_of plain session)
-  pub numbered : map (λ entry. entry.seq) (entries_of plain session) ≡ range_with_len 1 (slice_index plain.made (session - 1))
+  pub own : (desk : ℕ) → 1 ≤ desk → desk ≤ length plain.desks
+      → made_by session (desk_at plain desk).journal ≡ standing_on desk (entries_of plain session)
+  pub numbered : map (λ entry. entry.seq) (entries_of plain session)
+      ≡ range_with_len 1 (slice_index plain.made (session - 1))
   -- it has made no more entries than there are
   pub within : slice_index plain.made (session - 1) ≤ sum_by (λ desk. length desk.journal) plain.desks
 
@@ -68,6 +73,8 @@ pub record IsPlain (plain : Plain) : Type 0 where
   pub few : length plain.desks ≤ 16
   pub sessions : length plain.made ≡ length plain.desks
   pub sound : (desk : ℕ) → 1 ≤ desk → desk ≤ length plain.desks → IsSound (desk_at plain desk)
-  pub numbers : (desk : ℕ) → 1 ≤ desk → desk ≤ length plain.desks → (desk_at plain desk).terms.desk ≡ desk
-  pub shares : (desk : ℕ) → 1 ≤ desk → desk ≤ length plain.desks → length (desk_at plain desk).shares ≡ length plain.desks
+  pub numbers : (desk : ℕ) → 1 ≤ desk → desk ≤ length plain.desks
+      → (desk_at plain desk).terms.desk ≡ desk
+  pub shares : (desk : ℕ) → 1 ≤ desk → desk ≤ length plain.desks
+      → length (desk_at plain desk).shares ≡ length plain.desks
   pub entries : (session : ℕ) → 1 ≤ session → session ≤ length plain.desks → AreOwn plain session

@@ -19,8 +19,8 @@ Runs terms state (entry ∷ rest) = Comes terms state entry × Runs terms (after
 abbrev pub state_of : Terms → List Entry → State
 state_of terms journal = state_after terms start journal
 
--- The journal is one that a desk with these terms may have written when nobody calls it: each entry may come where it stands,
--- and nothing that an entry asks of a later one is open.
+-- The journal is one that a desk with these terms may have written when nobody calls it: each entry
+-- may come where it stands, and nothing that an entry asks of a later one is open.
 pub record IsDeskRun (terms : Terms) (journal : List Entry) : Type 0 where
   pub runs : Runs terms start journal
   pub settled : IsSettled (state_of terms journal).phase

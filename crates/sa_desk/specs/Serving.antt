@@ -18,7 +18,8 @@ report_of run = counts run.statement run.plan run.data_read run.steps
 abbrev pub served_with : Contents → Report → Stamp → List Request → List Entry
 served_with desk report stamp [] = []
 served_with desk report stamp (request ∷ rest) =
-    entry_by desk stamp (Served request.asker request.request report) ∷ served_with desk report (later 1 stamp) rest
+    entry_by desk stamp (Served request.asker request.request report)
+    ∷ served_with desk report (later 1 stamp) rest
 
 -- the whole queue is served with the run's report
 abbrev pub served_entries : Contents → Stamp → Progress → List Entry
@@ -27,7 +28,8 @@ served_entries desk stamp run = served_with desk (report_of run) stamp (queue_of
 -- The run is of the statement that is on, of its plan and over its tables.
 abbrev pub IsRunOf : Phase → Progress → Type 0
 IsRunOf (planned statement execution) run =
-    (run.statement ≡ statement.number) × (run.plan ≡ execution.plan) × (run.data_read ≡ execution.tables)
+    (run.statement ≡ statement.number) × (run.plan ≡ execution.plan)
+    × (run.data_read ≡ execution.tables)
 IsRunOf phase run = ⊥
 
 -- the turn in which the statement that is on began

@@ -6,7 +6,8 @@ use Rattle.sa_meaning.specs.Items.{items}
 use Rattle.sa_desk.specs.declared.request.Request.{Request}
 use Rattle.sa_desk.specs.declared.request.Reply.{Reply}
 
--- What is fixed for a desk: its number, how many steps its session makes in a turn, and how many turns a request or a wait lasts.
+-- What is fixed for a desk: its number, how many steps its session makes in a turn, and how many
+-- turns a request or a wait lasts.
 pub record Terms : Type 0 where
   pub desk : ℕ
   pub quantum : ℕ
@@ -67,8 +68,8 @@ IsSettled (planned statement execution) = execution.owed ≡ None
 IsSettled (serving statement execution steps turn) = ⊥
 IsSettled phase = ⊤
 
--- A number of steps that a session may have published while it runs this: a multiple of the quantum that isn't the
--- last number of all, not below what was shown, and just that while requests wait.
+-- A number of steps that a session may have published while it runs this: a multiple of the quantum
+-- that isn't the last number of all, not below what was shown, and just that while requests wait.
 pub record IsPublished (quantum : ℕ) (execution : Execution) (steps : ℕ) : Type 0 where
   pub whole_turns : (turns : ℕ) × (steps ≡ turns * quantum)
   pub unfinished : (steps ≡ 0) ⊎ (steps < length (items execution.plan execution.tables))
@@ -85,4 +86,5 @@ IsLawful quantum closed steps = steps ≡ 0
 
 -- The actor has no request here, neither waiting nor served.
 abbrev pub HasNone : ℕ → Phase → List Reply → Type 0
-HasNone actor phase replies = All (λ request. request.asker ≢ actor) (queue_of phase) × All (λ reply. reply.asker ≢ actor) replies
+HasNone actor phase replies = All (λ request. request.asker ≢ actor) (queue_of phase)
+    × All (λ reply. reply.asker ≢ actor) replies

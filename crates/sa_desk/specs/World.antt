@@ -25,8 +25,9 @@ quiet_of desk session = record {
   wait = slice_index_or desk.waits (session - 1) None;
 }
 
--- What one call of a session leaves of a desk: the desk as before, but for these entries at the end of its journal, which are the
--- session's and numbered from this number on, and for what the session has counted.
+-- What one call of a session leaves of a desk: the desk as before, but for these entries at the end
+-- of its journal, which are the session's and numbered from this number on, and for what the
+-- session has counted.
 pub record Leaves (before left : Contents) (session number : ℕ) (entries : List Entry) : Type 0 where
   pub sound : IsSound left
   pub terms : left.terms ≡ before.terms
@@ -66,10 +67,12 @@ standing_on desk entries = filter (λ entry. entry.desk == desk) entries
 
 -- the stamp of a session's next entry
 abbrev pub next_stamp : World → Caller → Stamp
-next_stamp world me = record { actor = me.actor; seq = length (world.mine me.actor) + 1; turn = me.turn }
+next_stamp world me =
+    record { actor = me.actor; seq = length (world.mine me.actor) + 1; turn = me.turn }
 
--- A session finds a desk as it may be: sound, with its terms and shares, with what the session has seen there and then entries
--- of others alone, with the session's entries those that it made there, and with what the session has counted there.
+-- A session finds a desk as it may be: sound, with its terms and shares, with what the session has
+-- seen there and then entries of others alone, with the session's entries those that it made there,
+-- and with what the session has counted there.
 pub record Meets (world : World) (desk session : ℕ) : Type 0 where
   pub sound : IsSound (world.contents desk)
   pub number : (world.contents desk).terms.desk ≡ desk
@@ -81,7 +84,8 @@ pub record Meets (world : World) (desk session : ℕ) : Type 0 where
   pub own : made_by session (world.contents desk).journal ≡ standing_on desk (world.mine session)
   pub counted : quiet_of (world.contents desk) session ≡ world.quiet session desk
 
--- Nobody has called yet: each session meets each desk that may be called for it, and has made, seen and counted nothing.
+-- Nobody has called yet: each session meets each desk that may be called for it, and has made, seen
+-- and counted nothing.
 pub record IsFirst (world : World) : Type 0 where
   pub met : (desk session : ℕ) → world.may_call desk session ≡ true → Meets world desk session
   pub mine : (session : ℕ) → world.mine session ≡ []
@@ -92,8 +96,10 @@ pub record IsFirst (world : World) : Type 0 where
 abbrev pub Begins : List Entry → List Entry → Type 0
 Begins first whole = (rest : List Entry) × (whole ≡ first ++ rest)
 
--- One call of a session at a desk has led from one world to the next. It has made these entries and left this at the desk.
-pub record IsCall (before later : World) (desk session : ℕ) (entries : List Entry) (left : Contents) : Type 0 where
+-- One call of a session at a desk has led from one world to the next. It has made these entries and
+-- left this at the desk.
+pub record IsCall (before later : World) (desk session : ℕ) (entries : List Entry)
+    (left : Contents) : Type 0 where
   pub met : Meets before desk session
   pub leaves : Leaves (before.contents desk) left session (length (before.mine session) + 1) entries
   -- the session has now seen what it left
@@ -108,8 +114,10 @@ pub record IsCall (before later : World) (desk session : ℕ) (entries : List En
   pub quiet_elsewhere : (at : ℕ) → at ≢ desk → later.quiet session at ≡ before.quiet session at
   pub same_terms : (at : ℕ) → later.terms at ≡ before.terms at
   pub same_shares : (at : ℕ) → later.shares at ≡ before.shares at
-  -- where the desk may still be called it holds what was left there, and any other desk holds what it held
+  -- where the desk may still be called it holds what was left there, and any other desk holds what
+  -- it held
   pub left_is : (other : ℕ) → later.may_call desk other ≡ true → later.contents desk ≡ left
-  pub elsewhere_is : (at other : ℕ) → at ≢ desk → later.may_call at other ≡ true → later.contents at ≡ before.contents at
+  pub elsewhere_is : (at other : ℕ) → at ≢ desk → later.may_call at other ≡ true
+      → later.contents at ≡ before.contents at
   -- each session still meets each desk that may be called for it
   pub still : (at other : ℕ) → later.may_call at other ≡ true → Meets later at other

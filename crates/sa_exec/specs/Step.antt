@@ -13,7 +13,8 @@ IsAtLimit run = run.steps ≡ run.row_limit
 
 -- More steps may be made, and the next item would give one row more than may be kept.
 abbrev pub IsTooMany : Progress → Type 0
-IsTooMany run = (run.steps < run.row_limit) × (most_rows < length (kept run.plan run.data_read (run.steps + 1)))
+IsTooMany run =
+    (run.steps < run.row_limit) × (most_rows < length (kept run.plan run.data_read (run.steps + 1)))
 
 -- More steps may be made, the next item gives a row, and that row may be kept.
 pub record MayLackMemory (run : Progress) : Type 0 where

@@ -25,11 +25,13 @@ count n = number (unsigned n)
 
 -- a number of hundredths, with two decimals
 abbrev pub two_decimals : ℕ → List ℕ
-two_decimals hundredths = decimal (hundredths / 100) ++ codes "." ++ decimal (hundredths / 10 % 10) ++ decimal (hundredths % 10)
+two_decimals hundredths = decimal (hundredths / 100) ++ codes "." ++ decimal (hundredths / 10 % 10)
+    ++ decimal (hundredths % 10)
 
 -- A quotient of so many hundredths, cut down to two decimals; null where the divisor is 0.
 abbrev pub quotient : (hundredths divisor : ℕ) → Data
-quotient hundredths divisor = if divisor == 0 then null else string (two_decimals (hundredths / divisor))
+quotient hundredths divisor =
+    if divisor == 0 then null else string (two_decimals (hundredths / divisor))
 
 -- how an access is called
 abbrev pub access_name : Access → List ℕ
@@ -39,9 +41,11 @@ access_name All = codes "ALL"
 abbrev pub with_condition : List TableNames → List Level → List Cond → Members → Members
 with_condition names levels [] members = members
 with_condition names levels (first ∷ rest) members =
-    put (codes "attached_condition") (string (joined (codes " AND ") (map (cond_text names levels) (first ∷ rest)))) members
+    put (codes "attached_condition")
+    (string (joined (codes " AND ") (map (cond_text names levels) (first ∷ rest)))) members
 
--- The members with what a run has counted of a table: how many of a hundred rows passed, and how many were read each time.
+-- The members with what a run has counted of a table: how many of a hundred rows passed, and how
+-- many were read each time.
 abbrev pub with_counters : Option Counters → Members → Members
 with_counters None members = members
 with_counters (Some counters) members =
@@ -68,17 +72,21 @@ level_data names levels level counters =
 
 -- what a report counts of the level with this index
 abbrev pub counters_at : Option Report → ℕ → Option Counters
-counters_at report index = option_and_then (λ (report : Report). slice_get report.tables.items index) report
+counters_at report index =
+    option_and_then (λ (report : Report). slice_get report.tables.items index) report
 
 -- the members with what a run has counted in all
 abbrev pub with_steps : Option Report → Members → Members
 with_steps None members = members
-with_steps (Some report) members = put (codes "r_sent") (count report.sent) (put (codes "r_steps") (count report.steps) members)
+with_steps (Some report) members =
+    put (codes "r_sent") (count report.sent) (put (codes "r_steps") (count report.steps) members)
 
 -- the levels of a plan
 abbrev pub nested_loop : List TableNames → List Level → Option Report → Data
 nested_loop names levels report =
-    array (items_of (map (λ numbered. level_data names levels numbered.1 (counters_at report numbered.0)) (enumerate_from 0 levels)))
+    array (items_of
+    (map (λ numbered. level_data names levels numbered.1 (counters_at report numbered.0))
+    (enumerate_from 0 levels)))
 
 abbrev pub block_members : List TableNames → Plan → Option Report → Members
 block_members names plan report =
@@ -90,7 +98,8 @@ block_members names plan report =
 
 -- The document of a plan; with a report it is that of a run, which tells what was counted too.
 unfoldable pub document : List TableNames → Plan → Option Report → Data
-document names plan report = object (put (codes "query_block") (object (block_members names plan report)) no_members)
+document names plan report =
+    object (put (codes "query_block") (object (block_members names plan report)) no_members)
 
 -- The names are those of tables for which the plan is lawful.
 pub record AreNamesFor (plan : Plan) (names : List TableNames) : Type 0 where

@@ -1,4 +1,5 @@
--- How a document writes a condition of a plan: as a statement would, each column after the alias of its table.
+-- How a document writes a condition of a plan: as a statement would, each column after the alias of
+-- its table.
 use Rattle.std.specs.Prelude.{ℕ, true, false, ◌==◌, List, [], ◌∷◌, map, Some, if◌then◌else◌}
 use Rattle.sa_value.specs.declared.truth.Truth.{Truth}
 use Rattle.sa_value.specs.declared.truth.Truth.TheVariants.{False, Unknown, True}
@@ -57,7 +58,8 @@ cond_node names levels (Cond-F.Compare op left right) =
 cond_node names levels (Cond-F.IsNull x) = ExprNode-F.IsNull (expr_text names levels x) false
 cond_node names levels (Cond-F.NotNull x) = ExprNode-F.IsNull (expr_text names levels x) true
 cond_node names levels (Cond-F.Between value low high) =
-    ExprNode-F.Between (expr_text names levels value) (expr_text names levels low) (expr_text names levels high) false
+    ExprNode-F.Between (expr_text names levels value) (expr_text names levels low)
+    (expr_text names levels high) false
 cond_node names levels (Cond-F.Among value list) =
     ExprNode-F.Among (expr_text names levels value) (map (expr_text names levels) list) false
 cond_node names levels (Cond-F.And members) = ExprNode-F.And members

@@ -45,7 +45,8 @@ fn document(
     report: Option<&Report>,
     names: &Names,
 ) -> Result<Json, OutOfMemory>
-    ensures { IfOk result (λ json. view json ≡ document names.now plan.now (option_copied report.entry)) }
+    ensures { IfOk result
+        (λ json. view json ≡ document names.now plan.now (option_copied report.entry)) }
 {
     let mut members = Map::new(alloc);
     put(&mut members, alloc, "select_id", Json::from(1u64))?;

@@ -1,4 +1,5 @@
--- A text with a fault: tokens and blanks alone stand up to it, and what stands there is of the fault's kind.
+-- A text with a fault: tokens and blanks alone stand up to it, and what stands there is of the
+-- fault's kind.
 use Rattle.std.specs.Prelude.{ℕ, ◌≡◌, ◌≢◌, ◌+◌, ◌<◌, ◌≤◌, ◌⊎◌, ⊤, true, false, List, [], ◌∷◌, ◌++◌, length, drop, slice_index, codes, IsTrue}
 use Rattle.std.specs.Char.{is_ascii_digit}
 use Rattle.std.specs.List.{AllByRecursion, concat}
@@ -17,8 +18,8 @@ use Rattle.sa_lexer.specs.Spans.{Part, IsPart, source_of, InQuotes, Spells}
 use Rattle.sa_lexer.specs.Grammar.{IsBlank, Ends, Follow}
 use Rattle.sa_lexer.specs.Piece.{IsStretch}
 
--- A quote that nothing closes: doubled quotes, escapes and other bytes stand behind it up to the text's end, where a
--- backslash may be left that has no byte to escape.
+-- A quote that nothing closes: doubled quotes, escapes and other bytes stand behind it up to the
+-- text's end, where a backslash may be left that has no byte to escape.
 pub record IsOpenText (rest : List ℕ) : Type 0 where
   pub quote : ℕ
   pub parts : List Part
@@ -81,10 +82,12 @@ pub record FollowsNumber (rest : List ℕ) (count : ℕ) : Type 0 where
   pub word : is_word_byte byte ≡ true
   pub all : count ≡ length digits
 
--- What is wrong with the rest of a text, by the kind of its fault, and how many bytes of it come before the place.
+-- What is wrong with the rest of a text, by the kind of its fault, and how many bytes of it come
+-- before the place.
 abbrev pub IsWrong : LexKind → List ℕ → ℕ → Type 0
 IsWrong BadByte rest count =
-    ((count ≡ 0) × (BeginsNothing rest ⊎ (IsEmptyName rest ⊎ (is_executable rest ≡ true)))) ⊎ FollowsNumber rest count
+    ((count ≡ 0) × (BeginsNothing rest ⊎ (IsEmptyName rest ⊎ (is_executable rest ≡ true))))
+    ⊎ FollowsNumber rest count
 IsWrong OpenText rest count = (count ≡ 0) × IsOpenText rest
 IsWrong OpenComment rest count = (count ≡ 0) × IsOpenComment rest × (is_executable rest ≡ false)
 IsWrong NumberTooLong rest count = (count ≡ 0) × IsLongNumber rest
@@ -92,7 +95,8 @@ IsWrong TextTooLong rest count = (count ≡ 0) × IsLongText rest
 
 -- A token or a blank, before what follows it.
 abbrev pub IsTokenOrBlank : List ℕ → List ℕ → Type 0
-IsTokenOrBlank bytes after = ((kind : TokenKind) × Spells bytes kind × Ends bytes after kind) ⊎ IsBlank bytes after
+IsTokenOrBlank bytes after =
+    ((kind : TokenKind) × Spells bytes kind × Ends bytes after kind) ⊎ IsBlank bytes after
 
 -- A text of which tokens and blanks are the front, and the rest has a fault of this kind at this place.
 pub record IsFaulty (text : List ℕ) (kind : LexKind) (place : ℕ) : Type 0 where

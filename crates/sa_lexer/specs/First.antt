@@ -31,7 +31,8 @@ pub record IsOther (rest : List ℕ) : Type 0 where
 abbrev pub IsFirst : List ℕ → FirstToken → Type 0
 IsFirst text Nothing = StandsBehindBlanks text (length text) []
 IsFirst text (Word start end) =
-    (rest word after : List ℕ) × StandsBehindBlanks text start rest × IsWordBefore rest word after × (end ≡ start + length word)
+    (rest word after : List ℕ) × StandsBehindBlanks text start rest × IsWordBefore rest word after
+    × (end ≡ start + length word)
 IsFirst text (Other start) = (rest : List ℕ) × StandsBehindBlanks text start rest × IsOther rest
 
 -- The text may be cut at the places that are told.

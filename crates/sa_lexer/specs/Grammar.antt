@@ -13,16 +13,20 @@ use Rattle.sa_lexer.specs.Spans.{Spells}
 
 -- A comment that its line ends, with what follows it: the end of the text, or the line's end.
 abbrev pub IsLineComment : List ℕ → List ℕ → Type 0
-IsLineComment bytes after = (opening_of (bytes ++ after) ≡ LineComment) × AllPass (λ byte. not (byte == 10)) bytes × ((after ≡ []) ⊎ (slice_index after 0 ≡ 10))
+IsLineComment bytes after = (opening_of (bytes ++ after) ≡ LineComment)
+    × AllPass (λ byte. not (byte == 10)) bytes × ((after ≡ []) ⊎ (slice_index after 0 ≡ 10))
 
 -- A comment from `/*` up to the first `*/` behind it.
 abbrev pub IsComment : List ℕ → Type 0
 IsComment bytes =
-    (inner : List ℕ) × (bytes ≡ codes "/*" ++ (inner ++ codes "*/")) × ((k : ℕ) → k < length inner → begins_with (codes "*/") (drop k (inner ++ codes "*/")) ≡ false)
+    (inner : List ℕ) × (bytes ≡ codes "/*" ++ (inner ++ codes "*/"))
+    × ((k : ℕ) → k < length inner
+    → begins_with (codes "*/") (drop k (inner ++ codes "*/")) ≡ false)
 
 -- A blank is a byte of white space or a comment, but none that MariaDB would run.
 abbrev pub IsBlank : List ℕ → List ℕ → Type 0
-IsBlank bytes after = ((byte : ℕ) × (is_space byte ≡ true) × (bytes ≡ byte ∷ [])) ⊎ (IsLineComment bytes after ⊎ (IsComment bytes × (is_executable (bytes ++ after) ≡ false)))
+IsBlank bytes after = ((byte : ℕ) × (is_space byte ≡ true) × (bytes ≡ byte ∷ []))
+    ⊎ (IsLineComment bytes after ⊎ (IsComment bytes × (is_executable (bytes ++ after) ≡ false)))
 
 -- Parts stand one after another, each before what follows it.
 abbrev pub Follow : (List ℕ → List ℕ → Type 0) → List (List ℕ) → List ℕ → Type 0
@@ -37,12 +41,15 @@ Ends bytes after (QuotedName name) = slice_index after 0 ≢ slice_index bytes 0
 Ends bytes after (Text text) = slice_index after 0 ≢ slice_index bytes 0
 Ends bytes after (Number number) = is_word_byte (slice_index after 0) ≡ false
 Ends bytes after (Sign sign) =
-    (opening_of (bytes ++ after) ≡ Plain) × ((other : sign_type.Sign) → begins_with (spelling other) (bytes ++ after) ≡ true → length (spelling other) ≤ length bytes)
+    (opening_of (bytes ++ after) ≡ Plain)
+    × ((other : sign_type.Sign) → begins_with (spelling other) (bytes ++ after) ≡ true
+    → length (spelling other) ≤ length bytes)
 
 -- The bytes of a text from the place on are these tokens, with blanks before, between and after them.
 abbrev pub AreTokens : ℕ → List ℕ → List Token → Type 0
 AreTokens place bytes [] = (blanks : List (List ℕ)) × (bytes ≡ concat blanks) × Follow IsBlank blanks []
 AreTokens place bytes (token ∷ tokens) =
-    (blanks : List (List ℕ)) × (spelled after : List ℕ) × (bytes ≡ concat blanks ++ (spelled ++ after)) × Follow IsBlank blanks (spelled ++ after)
+    (blanks : List (List ℕ)) × (spelled after : List ℕ)
+    × (bytes ≡ concat blanks ++ (spelled ++ after)) × Follow IsBlank blanks (spelled ++ after)
     × (token.start ≡ place + length (concat blanks)) × (token.end ≡ token.start + length spelled)
     × Spells spelled token.kind × Ends spelled after token.kind × AreTokens token.end after tokens

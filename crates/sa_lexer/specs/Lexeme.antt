@@ -54,8 +54,11 @@ unfoldable pub quoted_at : ℕ → List ℕ → Result Lexeme Fault
 quoted_at place bytes =
     let quote = slice_index bytes 0 in
     let held = held_in quote (slice_range bytes 1 (length bytes - 1)) in
-    if quote == 96 then (if length held == 0 then Err (fault BadByte place) else Ok (token (kinds.QuotedName held) (length bytes)))
-    else (if nat_lt 255 (length held) then Err (fault TextTooLong place) else Ok (token (kinds.Text held) (length bytes)))
+    if quote == 96
+    then (if length held == 0 then Err (fault BadByte place)
+    else Ok (token (kinds.QuotedName held) (length bytes)))
+    else (if nat_lt 255 (length held) then Err (fault TextTooLong place)
+    else Ok (token (kinds.Text held) (length bytes)))
 
 abbrev pub opened_at : ℕ → List ℕ → ℕ → Opening → Result Lexeme Fault
 opened_at place bytes len LineComment = Ok (blank len)

@@ -20,7 +20,8 @@ space_or_end (byte ∷ bytes) = is_space byte
 -- Any other comment begins with `/*`.
 unfoldable pub opening_of : List ℕ → Opening
 opening_of bytes =
-    if begins_with (codes "#") bytes || (begins_with (codes "--") bytes && space_or_end (drop 2 bytes)) then LineComment
+    if begins_with (codes "#") bytes
+    || (begins_with (codes "--") bytes && space_or_end (drop 2 bytes)) then LineComment
     else (if begins_with (codes "/*") bytes then Comment
     else (if is_quote (slice_index bytes 0) then Quoted else Plain))
 
@@ -38,7 +39,8 @@ plus n found = option_map (λ k. n + k) found
 -- how many bytes there are up to the first `*/`, and with it
 unfoldable pub comment_close : List ℕ → Option ℕ
 comment_close [] = None
-comment_close (byte ∷ bytes) = if begins_with (codes "*/") (byte ∷ bytes) then Some 2 else plus 1 (comment_close bytes)
+comment_close (byte ∷ bytes) =
+    if begins_with (codes "*/") (byte ∷ bytes) then Some 2 else plus 1 (comment_close bytes)
 
 -- Whether a backslash is an escape: in texts it is, in names in backquotes it is not.
 abbrev pub escapes : ℕ → ℕ → Bool
@@ -62,7 +64,8 @@ closed kind place (Some len) = Ok len
 abbrev pub opened_len : ℕ → List ℕ → Opening → Result ℕ Fault
 opened_len place bytes LineComment = Ok (line_len bytes)
 opened_len place bytes Comment = closed OpenComment place (plus 2 (comment_close (drop 2 bytes)))
-opened_len place bytes Quoted = closed OpenText place (plus 1 (quote_close (slice_index bytes 0) (drop 1 bytes)))
+opened_len place bytes Quoted =
+    closed OpenText place (plus 1 (quote_close (slice_index bytes 0) (drop 1 bytes)))
 opened_len place bytes Plain = Ok 1
 
 -- How many bytes the comment or the part in quotes takes that a text from the place on begins with.

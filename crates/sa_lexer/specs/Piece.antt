@@ -9,8 +9,8 @@ use Rattle.sa_lexer.specs.Opening.{opening_of, len_at}
 use Rattle.sa_lexer.specs.Spans.{InQuotes}
 use Rattle.sa_lexer.specs.Grammar.{IsLineComment, IsComment, Follow}
 
--- The first `;` outside quotes and comments, or the end of the bytes. These are the bytes of a text from
--- the place on, of which the first `inside` are passed.
+-- The first `;` outside quotes and comments, or the end of the bytes. These are the bytes of a text
+-- from the place on, of which the first `inside` are passed.
 unfoldable pub end_from : ℕ → ℕ → List ℕ → Result PieceEnd Fault
 end_from inside place [] = Ok (record { end = place; closed = false })
 end_from (suc inside) place (byte ∷ bytes) = end_from inside (place + 1) bytes
@@ -26,10 +26,15 @@ piece_end_at from text = end_from from 0 text
 abbrev pub IsStretch : List ℕ → List ℕ → Type 0
 IsStretch bytes after =
     ((byte : ℕ) × (byte ≢ 59) × (bytes ≡ byte ∷ []) × (opening_of (bytes ++ after) ≡ Plain))
-    ⊎ (IsLineComment bytes after ⊎ (IsComment bytes ⊎ ((quote : ℕ) × (held : List ℕ) × (is_quote quote ≡ true) × InQuotes quote bytes held × (slice_index after 0 ≢ quote))))
+    ⊎ (IsLineComment bytes after
+    ⊎ (IsComment bytes
+    ⊎ ((quote : ℕ) × (held : List ℕ) × (is_quote quote ≡ true) × InQuotes quote bytes held
+    × (slice_index after 0 ≢ quote))))
 
 -- From a place on the text is a piece and what follows it, a `;` or nothing.
 abbrev pub EndsPiece : ℕ → List ℕ → PieceEnd → Type 0
 EndsPiece from text found =
-    (stretches : List (List ℕ)) × (after : List ℕ) × (drop from text ≡ concat stretches ++ after) × (found.end ≡ from + length (concat stretches))
-    × Follow IsStretch stretches after × MatchBool found.closed (slice_get after 0 ≡ Some 59) (after ≡ [])
+    (stretches : List (List ℕ)) × (after : List ℕ) × (drop from text ≡ concat stretches ++ after)
+    × (found.end ≡ from + length (concat stretches))
+    × Follow IsStretch stretches after
+    × MatchBool found.closed (slice_get after 0 ≡ Some 59) (after ≡ [])

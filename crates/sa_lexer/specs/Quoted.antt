@@ -16,10 +16,11 @@ escape byte =
     else (if byte == 95 then 92 ∷ 95 ∷ []
     else byte ∷ [])))))))
 
--- The bytes that an escape of a byte takes stand for this much. Before a character past ASCII the backslash
--- alone is passed, and stands for nothing.
+-- The bytes that an escape of a byte takes stand for this much. Before a character past ASCII the
+-- backslash alone is passed, and stands for nothing.
 abbrev pub Escapes : ℕ → List ℕ → ℕ → Type 0
-Escapes byte meaning len = ((len ≡ 2) × (byte < 128) × (meaning ≡ escape byte)) ⊎ ((len ≡ 1) × (128 ≤ byte) × (meaning ≡ []))
+Escapes byte meaning len = ((len ≡ 2) × (byte < 128) × (meaning ≡ escape byte))
+    ⊎ ((len ≡ 1) × (128 ≤ byte) × (meaning ≡ []))
 
 -- whether a byte stands for itself wherever it stands between quotes
 abbrev pub is_other : ℕ → ℕ → Bool

@@ -28,7 +28,8 @@ spelling Greater = codes ">"
 
 -- all signs, the longest first
 abbrev pub signs : List Sign
-signs = NullSafeEqual ∷ NotEqual ∷ BangEqual ∷ LessEqual ∷ GreaterEqual ∷ AndAnd ∷ OrOr ∷ LeftParen ∷ RightParen ∷ Comma ∷ Dot ∷ Star ∷ Plus ∷ Minus ∷ Slash ∷ Percent ∷ Equal ∷ Less ∷ Greater ∷ []
+signs = NullSafeEqual ∷ NotEqual ∷ BangEqual ∷ LessEqual ∷ GreaterEqual ∷ AndAnd ∷ OrOr ∷ LeftParen
+    ∷ RightParen ∷ Comma ∷ Dot ∷ Star ∷ Plus ∷ Minus ∷ Slash ∷ Percent ∷ Equal ∷ Less ∷ Greater ∷ []
 
 -- The longest sign that the bytes begin with.
 unfoldable pub sign_at : List ℕ → Option Sign

@@ -16,7 +16,8 @@ use Rattle.sa_lexer.specs.Sign.{spelling}
 -- and ends within the text.
 abbrev pub SpansRise : ℕ → ℕ → List Token → Type 0
 SpansRise from end [] = from ≤ end
-SpansRise from end (token ∷ tokens) = (from ≤ token.start) × (token.start < token.end) × SpansRise token.end end tokens
+SpansRise from end (token ∷ tokens) =
+    (from ≤ token.start) × (token.start < token.end) × SpansRise token.end end tokens
 
 -- a few bytes between quotes, and what they stand for
 pub record Part : Type 0 where
@@ -27,8 +28,10 @@ pub record Part : Type 0 where
 abbrev pub IsPart : ℕ → Part → Type 0
 IsPart quote part =
     ((part.source ≡ quote ∷ quote ∷ []) × (part.meaning ≡ quote ∷ []))
-    ⊎ (((byte : ℕ) × (escapes quote 92 ≡ true) × (part.source ≡ 92 ∷ byte ∷ []) × (part.meaning ≡ escape byte))
-    ⊎ ((byte : ℕ) × (is_other quote byte ≡ true) × (part.source ≡ byte ∷ []) × (part.meaning ≡ byte ∷ [])))
+    ⊎ (((byte : ℕ) × (escapes quote 92 ≡ true) × (part.source ≡ 92 ∷ byte ∷ [])
+    × (part.meaning ≡ escape byte))
+    ⊎ ((byte : ℕ) × (is_other quote byte ≡ true) × (part.source ≡ byte ∷ [])
+    × (part.meaning ≡ byte ∷ [])))
 
 abbrev pub source_of : List Part → List ℕ
 source_of parts = flat_map (λ part. part.source) parts
@@ -39,17 +42,21 @@ meaning_of parts = flat_map (λ part. part.meaning) parts
 -- The bytes are parts between two quotes, and hold what the parts stand for.
 abbrev pub InQuotes : ℕ → List ℕ → List ℕ → Type 0
 InQuotes quote bytes held =
-    (parts : List Part) × AllByRecursion (IsPart quote) parts × (bytes ≡ quote ∷ (source_of parts ++ quote ∷ [])) × (held ≡ meaning_of parts)
+    (parts : List Part) × AllByRecursion (IsPart quote) parts
+    × (bytes ≡ quote ∷ (source_of parts ++ quote ∷ [])) × (held ≡ meaning_of parts)
 
 -- Bytes spell a token: a word's are its own, a text and a name in quotes hold it, a number's are up to
 -- 38 digits of that value, a sign's are its spelling.
 abbrev pub Spells : List ℕ → TokenKind → Type 0
-Spells bytes (Word word) = (word ≡ bytes) × (0 < length bytes) × AllPass is_word_byte bytes × (is_ascii_digit (slice_index bytes 0) ≡ false)
+Spells bytes (Word word) = (word ≡ bytes) × (0 < length bytes) × AllPass is_word_byte bytes
+    × (is_ascii_digit (slice_index bytes 0) ≡ false)
 Spells bytes (QuotedName name) = InQuotes 96 bytes name × (0 < length name)
 Spells bytes (Text text) = (InQuotes 39 bytes text ⊎ InQuotes 34 bytes text) × (length text ≤ 255)
-Spells bytes (Number number) = (digits_value 10 bytes ≡ number) × (0 < length bytes) × (length bytes ≤ 38) × IsTrue (all_ascii_digits bytes)
+Spells bytes (Number number) = (digits_value 10 bytes ≡ number) × (0 < length bytes)
+    × (length bytes ≤ 38) × IsTrue (all_ascii_digits bytes)
 Spells bytes (Sign sign) = bytes ≡ spelling sign
 
 -- Each token is spelled by what stands at its span.
 abbrev pub AllSpelled : List ℕ → List Token → Type 0
-AllSpelled text tokens = All (λ token. Spells (slice_range text token.start token.end) token.kind) tokens
+AllSpelled text tokens =
+    All (λ token. Spells (slice_range text token.start token.end) token.kind) tokens

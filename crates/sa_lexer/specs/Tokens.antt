@@ -10,7 +10,8 @@ abbrev pub token_of : ℕ → ℕ → Option TokenKind → List Token
 token_of start end None = []
 token_of start end (Some kind) = record { kind = kind; start = start; end = end } ∷ []
 
--- The tokens of the bytes from the place on, of which the first `inside` belong to what was read before.
+-- The tokens of the bytes from the place on, of which the first `inside` belong to what was read
+-- before.
 unfoldable pub tokens_from : ℕ → ℕ → List ℕ → Result (List Token) Fault
 tokens_from inside place [] = Ok []
 tokens_from (suc inside) place (byte ∷ bytes) = tokens_from inside (place + 1) bytes

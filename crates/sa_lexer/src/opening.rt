@@ -114,7 +114,8 @@ fn quote_close(quote: u8, bytes: &[u8]) -> Option<usize>
 fn unit_len(quote: u8, bytes: &[u8]) -> Option<usize>
     requires { 0 < length bytes.now }
     ensures close { IfNone result (quote_close quote bytes.now ≡ Some 1) }
-    ensures on { IfSome result (λ len. quote_close quote bytes.now ≡ plus len (quote_close quote (drop len bytes.now))) }
+    ensures on { IfSome result
+        (λ len. quote_close quote bytes.now ≡ plus len (quote_close quote (drop len bytes.now))) }
     ensures some { IfSome result (λ len. 0 < len) }
     ensures within { IfSome result (λ len. len ≤ length bytes.now) }
 {

@@ -27,7 +27,8 @@ pub fn piece_end(text: &str, from: usize) -> Result<PieceEnd, LexFault>
     ensures after { IfOk result (λ piece. from ≤ piece.end) }
     ensures cut { IfOk result (λ piece. IsCharBoundary text.now piece.end) }
     // Behind the semicolon the next piece begins.
-    ensures next { IfOk result (λ piece. IsTrue piece.closed → IsCharBoundary text.now (piece.end + 1)) }
+    ensures next { IfOk result
+        (λ piece. IsTrue piece.closed → IsCharBoundary text.now (piece.end + 1)) }
     // Where it has a fault, stretches without a semicolon stand up to that.
     ensures faulty { IfErr result (TellsOpen from text.now) }
     ensures open_alone { IfErr result IsOpen }

@@ -68,4 +68,6 @@ cause_of row.OutOfMemory = []
 abbrev pub field_causes : ℕ → ColumnDef → List ℕ → List LoadCause
 field_causes column def field =
     told (not (is_utf8 field)) NotUtf8
-    ++ (if is_readable def.kind field then flat_map cause_of (value_faults column def (field_value def.kind field)) else NotNumber ∷ [])
+    ++ (if is_readable def.kind field
+    then flat_map cause_of (value_faults column def (field_value def.kind field)) else NotNumber
+    ∷ [])

@@ -18,7 +18,8 @@ row_of columns fields = map (λ pair. field_value pair.0.kind pair.1) (zip colum
 -- the causes of a record's fields, column by column
 abbrev pub column_causes : List ColumnDef → Fields → List LoadCause
 column_causes columns fields =
-    flat_map (λ numbered. field_causes numbered.0 numbered.1.0 numbered.1.1) (enumerate_from 0 (zip columns fields))
+    flat_map (λ numbered. field_causes numbered.0 numbered.1.0 numbered.1.1)
+    (enumerate_from 0 (zip columns fields))
 
 -- the causes of a record in a table, in their order
 abbrev pub record_causes : Table → Fields → List LoadCause

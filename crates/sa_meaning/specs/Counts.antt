@@ -42,7 +42,8 @@ counters_of made level = record {
 
 -- the counters of a plan's levels after so many items, in their order
 unfoldable pub level_counters : Plan → RunData → ℕ → List Counters
-level_counters plan tables steps = map (counters_of (take steps (items plan tables))) (range_with_len 0 (length plan.levels))
+level_counters plan tables steps =
+    map (counters_of (take steps (items plan tables))) (range_with_len 0 (length plan.levels))
 
 -- how many rows were given out after so many items
 unfoldable pub sent_count : Plan → RunData → ℕ → ℕ

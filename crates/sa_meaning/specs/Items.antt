@@ -15,8 +15,8 @@ use Rattle.sa_plan.specs.Chosen.{Chosen, choice_of}
 use Rattle.sa_plan.specs.Scan.{scan}
 use Rattle.sa_meaning.specs.Data.{RunData}
 
--- A run opens a level, reads a row there, which passed all of the level's conditions or not, or emits a row. Levels are
--- numbered from 0 on.
+-- A run opens a level, reads a row there, which passed all of the level's conditions or not, or
+-- emits a row. Levels are numbered from 0 on.
 pub data RunItem : Type 0 where
   open_level : (level : ℕ) → RunItem
   read_row : (level : ℕ) (passed : Bool) → RunItem
@@ -30,22 +30,26 @@ is_true True = true
 
 -- whether the rows that are chosen pass all of these conditions
 unfoldable pub passes : RunData → List Cond → List Chosen → Bool
-passes tables conditions chosen = list_all (λ cond. is_true (holds (choice_of tables chosen) cond)) conditions
+passes tables conditions chosen =
+    list_all (λ cond. is_true (holds (choice_of tables chosen) cond)) conditions
 
 -- the row that a select list gives for the rows that are chosen
 unfoldable pub selected : RunData → List Item → List Chosen → List Value
-selected tables select chosen = map (λ (item : Item). expr_value (choice_of tables chosen) item.value) select
+selected tables select chosen =
+    map (λ (item : Item). expr_value (choice_of tables chosen) item.value) select
 
 -- the rows that are chosen, with one more of this level's table
 abbrev pub with_row : Level → List Chosen → ℕ → List Chosen
-with_row level chosen row = chosen ++ record { position = level.position; table = level.table; row = row } ∷ []
+with_row level chosen row =
+    chosen ++ record { position = level.position; table = level.table; row = row } ∷ []
 
 -- A row is read, and where it passed, what is inside follows.
 abbrev pub row_items : ℕ → Bool → List RunItem → List RunItem
 row_items number passed inner = read_row number passed ∷ (if passed then inner else [])
 
--- The items of these levels, the first of which has this number, for the rows that are chosen before them. A level is opened
--- and its rows are read in order; inside the last level a row is emitted.
+-- The items of these levels, the first of which has this number, for the rows that are chosen
+-- before them. A level is opened and its rows are read in order; inside the last level a row is
+-- emitted.
 abbrev pub level_items : RunData → List Item → ℕ → List Level → List Chosen → List RunItem
 level_items tables select number [] chosen = emit_row (selected tables select chosen) ∷ []
 level_items tables select number (level ∷ levels) chosen =

@@ -14,8 +14,10 @@ pub trait Running: Drop {
 
     /// What the run has counted, for other sessions to see.
     fn report(&self) -> Report
-        ensures counts { let run = progress self.now in result ≡ counts run.statement run.plan run.data_read run.steps }
-        ensures within { let run = progress self.now in run.steps ≤ length (items run.plan run.data_read) };
+        ensures counts { let run = progress self.now in result
+            ≡ counts run.statement run.plan run.data_read run.steps }
+        ensures within { let run = progress self.now in run.steps
+            ≤ length (items run.plan run.data_read) };
 
     /// Whether all items of the plan are made.
     fn finished(&self) -> bool

@@ -1,4 +1,5 @@
--- The tokens of a canonical text spell the tree that the text was made of, and no other. Depth is left aside.
+-- The tokens of a canonical text spell the tree that the text was made of, and no other. Depth is
+-- left aside.
 use Rattle.std.specs.Prelude.{◌≡◌, ℕ, List, Ok}
 use Rattle.sa_lexer.specs.declared.token.Token.{Token}
 use Rattle.sa_lexer.specs.Tokens.{tokens_of}
@@ -20,4 +21,5 @@ IsReadBack tree =
 
 -- So it is for each tree that the tokens of a text spell.
 abbrev pub CanonicalTextIsUnique : Type 0
-CanonicalTextIsUnique = (bytes : List ℕ) (tokens : List Token) (tree : Statement) → tokens_of bytes ≡ Ok tokens → IsStatement tokens tree → IsReadBack tree
+CanonicalTextIsUnique = (bytes : List ℕ) (tokens : List Token) (tree : Statement)
+    → tokens_of bytes ≡ Ok tokens → IsStatement tokens tree → IsReadBack tree

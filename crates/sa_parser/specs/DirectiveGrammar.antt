@@ -1,4 +1,5 @@
--- The grammar of a script's directives, which say what its statements don't. They are this product's own.
+-- The grammar of a script's directives, which say what its statements don't. They are this
+-- product's own.
 use Rattle.std.specs.Prelude.{ℕ, codes, [], ◌∷◌, ◌++◌, List, Option, Some, None}
 use Rattle.sa_lexer.specs.declared.token.Token.{Token}
 use Rattle.sa_lexer.specs.declared.token.TokenKind.{TokenKind}
@@ -25,7 +26,8 @@ Numbers = Chain ((λ first. first ∷ []) <$> PlacedNumber) (λ found next. foun
 
 unfoldable pub Load : Form Directive
 Load =
-    (λ _ _ table _ bytes. said.Load table bytes) <$> Word (codes "LOAD") <*> Word (codes "DATA") <*> Name <*> Word (codes "BYTES") <*> PlacedNumber
+    (λ _ _ table _ bytes. said.Load table bytes) <$> Word (codes "LOAD") <*> Word
+    (codes "DATA") <*> Name <*> Word (codes "BYTES") <*> PlacedNumber
 
 unfoldable pub Schedule : Form Directive
 Schedule = (λ _ numbers. said.Schedule numbers) <$> Word (codes "SCHEDULE") <*> Numbers

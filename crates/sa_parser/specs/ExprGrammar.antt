@@ -18,7 +18,8 @@ Column = column_tree <$> Name <*> Perhaps ((λ _ name. name) <$> Sign signs.Dot 
 -- `COUNT(*)`, or an aggregate of a sum
 unfoldable pub Call : (Rule → Form ExprTree) → Form ExprTree
 Call inner =
-    count_tree <$> Word (codes "COUNT") <*> Brackets ((λ _. None) <$> Sign signs.Star <|> Some <$> inner rule.Sum)
+    count_tree <$> Word (codes "COUNT") <*> Brackets
+    ((λ _. None) <$> Sign signs.Star <|> Some <$> inner rule.Sum)
     <|> aggregate_tree <$> One aggregate_in <*> Brackets (inner rule.Sum)
 
 unfoldable pub Primary : (Rule → Form ExprTree) → Form ExprTree
@@ -26,11 +27,13 @@ Primary inner = Brackets (inner rule.Expression) <|> (Call inner <|> (Column <|>
 
 -- A sign before it is a factor again.
 unfoldable pub Factor : (Rule → Form ExprTree) → Form ExprTree
-Factor inner = minus_tree <$> Sign signs.Minus <*> inner rule.Factor <|> (plus_tree <$> Sign signs.Plus <*> inner rule.Factor <|> Primary inner)
+Factor inner = minus_tree <$> Sign signs.Minus <*> inner rule.Factor <|>
+    (plus_tree <$> Sign signs.Plus <*> inner rule.Factor <|> Primary inner)
 
 -- Products and sums group to the left.
 unfoldable pub Term : (Rule → Form ExprTree) → Form ExprTree
-Term inner = Chain (Factor inner) times_tree ((λ place next. (place, next)) <$> Sign signs.Star <*> Factor inner)
+Term inner = Chain (Factor inner) times_tree
+    ((λ place next. (place, next)) <$> Sign signs.Star <*> Factor inner)
 
 unfoldable pub Sum : (Rule → Form ExprTree) → Form ExprTree
 Sum inner = Chain (Term inner) sum_tree ((λ sign next. (sign, next)) <$> One additive_in <*> Term inner)
@@ -43,14 +46,17 @@ unfoldable pub NullTail : Form PlacedTail
 NullTail = null_tail <$> Word (codes "IS") <*> Perhaps (Word (codes "NOT")) <*> Word (codes "NULL")
 
 unfoldable pub BetweenTail : (Rule → Form ExprTree) → Form PlacedTail
-BetweenTail inner = between_tail <$> Word (codes "BETWEEN") <*> Sum inner <*> Word (codes "AND") <*> Sum inner
+BetweenTail inner =
+    between_tail <$> Word (codes "BETWEEN") <*> Sum inner <*> Word (codes "AND") <*> Sum inner
 
 unfoldable pub AmongTail : (Rule → Form ExprTree) → Form PlacedTail
 AmongTail inner = among_tail <$> Word (codes "IN") <*> Brackets (Commas (Sum inner))
 
 unfoldable pub PredicateTail : (Rule → Form ExprTree) → Form PlacedTail
 PredicateTail inner =
-    CompareTail inner <|> (NullTail <|> with_not <$> Perhaps (Word (codes "NOT")) <*> (BetweenTail inner <|> AmongTail inner))
+    CompareTail inner <|>
+    (NullTail <|> with_not <$> Perhaps (Word (codes "NOT")) <*>
+    (BetweenTail inner <|> AmongTail inner))
 
 unfoldable pub Predicate : (Rule → Form ExprTree) → Form ExprTree
 Predicate inner = predicate_tree <$> Sum inner <*> Perhaps (PredicateTail inner)
@@ -66,7 +72,8 @@ Conjunction inner =
 
 unfoldable pub Disjunction : (Rule → Form ExprTree) → Form ExprTree
 Disjunction inner =
-    or_tree <$> Chain (Alone <$> Conjunction inner) with_member ((λ place next. (place, next)) <$> Word (codes "OR") <*> Conjunction inner)
+    or_tree <$> Chain (Alone <$> Conjunction inner) with_member
+    ((λ place next. (place, next)) <$> Word (codes "OR") <*> Conjunction inner)
 
 -- a rule over what is inside
 abbrev pub ruled : (Rule → Form ExprTree) → Rule → Form ExprTree

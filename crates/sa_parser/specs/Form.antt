@@ -1,4 +1,5 @@
--- The pieces that a grammar is made of. A form tells which tokens are one thing, and what that thing is.
+-- The pieces that a grammar is made of. A form tells which tokens are one thing, and what that
+-- thing is.
 use Rattle.std.specs.Prelude.{◌≡◌, ℕ, ◌⊎◌, List, [], ◌∷◌, ◌++◌, Option, Some, None, fold}
 use Rattle.sa_lexer.specs.declared.token.Token.{Token}
 use Rattle.sa_lexer.specs.declared.sign.Sign as sign
@@ -20,7 +21,8 @@ Made {A} make Is tokens value = (part : A) × Is tokens part × (value ≡ make 
 -- A form and another one behind it. The value of the first takes that of the second.
 unfoldable pub Then : {A B : Type 0} → Form (A → B) → Form A → Form B
 Then {A} {B} First Second tokens value =
-    (before after : List Token) × (make : A → B) × (part : A) × (tokens ≡ before ++ after) × First before make × Second after part × (value ≡ make part)
+    (before after : List Token) × (make : A → B) × (part : A) × (tokens ≡ before ++ after)
+    × First before make × Second after part × (value ≡ make part)
 
 -- One form or another.
 unfoldable pub Either : {A : Type 0} → Form A → Form A → Form A
@@ -34,7 +36,8 @@ Perhaps Is tokens (Some value) = Is tokens value
 -- A form any number of times, one after another.
 unfoldable pub Many : {A : Type 0} → Form A → Form (List A)
 Many Is tokens [] = tokens ≡ []
-Many Is tokens (value ∷ values) = (before after : List Token) × (tokens ≡ before ++ after) × Is before value × Many Is after values
+Many Is tokens (value ∷ values) = (before after : List Token) × (tokens ≡ before ++ after)
+    × Is before value × Many Is after values
 
 -- A form with the place of its first token.
 unfoldable pub Placed : {A B : Type 0} → (ℕ → A → B) → Form A → Form B
@@ -78,7 +81,8 @@ Brackets Is = (λ _ value _. value) <$> Sign signs.LeftParen <*> Is <*> Sign sig
 
 -- One or more of a form, with commas between them.
 abbrev pub Commas : {A : Type 0} → Form A → Form (List A)
-Commas Is = Chain ((λ first. first ∷ []) <$> Is) (λ found next. found ++ next ∷ []) ((λ _ next. next) <$> Sign signs.Comma <*> Is)
+Commas Is = Chain ((λ first. first ∷ []) <$> Is) (λ found next. found ++ next ∷ [])
+    ((λ _ next. next) <$> Sign signs.Comma <*> Is)
 
 -- a form behind a word
 abbrev pub After : {A : Type 0} → List ℕ → Form A → Form A

@@ -1,4 +1,5 @@
--- What the parser answers: the tree of the tokens, or their first fault. What is said of a fault holds in any grammar.
+-- What the parser answers: the tree of the tokens, or their first fault. What is said of a fault
+-- holds in any grammar.
 use Rattle.std.specs.Prelude.{◌≡◌, ◌≢◌, ℕ, ◌<◌, ◌≤◌, ◌⊎◌, true, List, [], ◌∷◌, ◌++◌, Result, Ok, Err}
 use Rattle.sa_lexer.specs.declared.sign.Sign.TheVariants as signs
 use Rattle.sa_lexer.specs.declared.token.Token.{Token}
@@ -36,25 +37,30 @@ DeepensTooFar Is before token =
 -- A token goes too deep, and no fault stands before it.
 abbrev pub GoesTooDeep : {A : Type 0} → Form A → List Token → ℕ → Type 0
 GoesTooDeep Is tokens place =
-    (before : List Token) × (token : Token) × (behind : List Token) × (tokens ≡ before ++ token ∷ behind)
+    (before : List Token) × (token : Token) × (behind : List Token)
+    × (tokens ≡ before ++ token ∷ behind)
     × Begins Is before × DeepensTooFar Is before token × (place ≡ token.start)
 
 -- The faulty token doesn't go too deep.
 abbrev pub StaysInLevels : List Token → List Token → Type 0
 StaysInLevels before [] = StaysFlat before
 StaysInLevels before (token ∷ behind) =
-    StaysFlat before × ((is_sign signs.Star token.kind ≡ true) ⊎ (depth_of (before ++ token ∷ []) ≤ most_levels))
+    StaysFlat before
+    × ((is_sign signs.Star token.kind ≡ true) ⊎ (depth_of (before ++ token ∷ []) ≤ most_levels))
 
 -- The tokens have their first fault at the place, and of it the kind says this.
-abbrev pub HasFault : {A : Type 0} → Form A → List Token → (List Token → List Token → Type 0) → ℕ → Type 0
+abbrev pub HasFault : {A : Type 0} → Form A → List Token → (List Token → List Token → Type 0) → ℕ
+    → Type 0
 HasFault Is tokens IsKind place =
-    (before : List Token) × (behind : List Token) × (tokens ≡ before ++ behind) × FaultyAt Is before behind
+    (before : List Token) × (behind : List Token) × (tokens ≡ before ++ behind)
+    × FaultyAt Is before behind
     × StaysInLevels before behind × IsKind before behind × (place ≡ fault_place before behind)
 
 -- The answer is the tree, or the fault with its kind and place, unless memory ran out.
 abbrev pub IsAnswer : {A : Type 0} → Form A → List Token → Result A ParseFault → Type 0
 IsAnswer Is tokens (Ok tree) = Is tokens tree × StaysFlat tokens
-IsAnswer Is tokens (Err (Syntax place)) = HasFault Is tokens (λ before behind. IsUnsupported Is before behind → ⊥) place
+IsAnswer Is tokens (Err (Syntax place)) =
+    HasFault Is tokens (λ before behind. IsUnsupported Is before behind → ⊥) place
 IsAnswer Is tokens (Err (NotSupported place)) = HasFault Is tokens (IsUnsupported Is) place
 IsAnswer Is tokens (Err (TooDeep place)) = GoesTooDeep Is tokens place
 IsAnswer Is tokens (Err OutOfMemory) = Unit {0}

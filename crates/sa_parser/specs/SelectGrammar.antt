@@ -29,7 +29,8 @@ Table = table_tree <$> Name <*> Alias
 
 -- INNER and CROSS say nothing more.
 unfoldable pub Join : Form ℕ
-Join = (λ _ join. join) <$> Perhaps (Word (codes "INNER") <|> Word (codes "CROSS")) <*> Word (codes "JOIN")
+Join = (λ _ join. join) <$> Perhaps (Word (codes "INNER") <|> Word (codes "CROSS")) <*> Word
+    (codes "JOIN")
 
 unfoldable pub Joined : Form ExprTree → Form (List TableTree)
 Joined Expr =
@@ -37,29 +38,36 @@ Joined Expr =
     (joined_table <$> Join <*> Table <*> Perhaps (After (codes "ON") Expr))
 
 unfoldable pub Tables : Form ExprTree → Form (List TableTree)
-Tables Expr = Chain (Joined Expr) (λ tables next. tables ++ next) ((λ _ next. next) <$> Sign signs.Comma <*> Joined Expr)
+Tables Expr = Chain (Joined Expr) (λ tables next. tables ++ next)
+    ((λ _ next. next) <$> Sign signs.Comma <*> Joined Expr)
 
 unfoldable pub Distinct : Form Bool
-Distinct = or_else false <$> Perhaps ((λ _. false) <$> Word (codes "ALL") <|> (λ _. true) <$> Word (codes "DISTINCT"))
+Distinct = or_else false <$> Perhaps
+    ((λ _. false) <$> Word (codes "ALL") <|> (λ _. true) <$> Word (codes "DISTINCT"))
 
 unfoldable pub Where : Form ExprTree → Form (Option ExprTree)
 Where Expr = Perhaps (After (codes "WHERE") Expr)
 
 unfoldable pub Group : Form ExprTree → Form (List GroupTree)
-Group Expr = listed <$> Perhaps ((λ _ _ items. items) <$> Word (codes "GROUP") <*> Word (codes "BY") <*> Commas (Placed group_item Expr))
+Group Expr = listed <$> Perhaps
+    ((λ _ _ items. items) <$> Word (codes "GROUP") <*> Word (codes "BY") <*> Commas
+    (Placed group_item Expr))
 
 unfoldable pub Having : Form ExprTree → Form (Option (ℕ × ExprTree))
 Having Expr = Perhaps ((λ place value. (place, value)) <$> Word (codes "HAVING") <*> Expr)
 
 -- Rising is what nothing says.
 unfoldable pub Direction : Form Bool
-Direction = or_else false <$> Perhaps ((λ _. false) <$> Word (codes "ASC") <|> (λ _. true) <$> Word (codes "DESC"))
+Direction = or_else false <$> Perhaps
+    ((λ _. false) <$> Word (codes "ASC") <|> (λ _. true) <$> Word (codes "DESC"))
 
 unfoldable pub OrderItem : Form ExprTree → Form OrderTree
 OrderItem Expr = Placed order_item ((λ value down. (value, down)) <$> Expr <*> Direction)
 
 unfoldable pub Order : Form ExprTree → Form (List OrderTree)
-Order Expr = listed <$> Perhaps ((λ _ _ items. items) <$> Word (codes "ORDER") <*> Word (codes "BY") <*> Commas (OrderItem Expr))
+Order Expr = listed <$> Perhaps
+    ((λ _ _ items. items) <$> Word (codes "ORDER") <*> Word (codes "BY") <*> Commas
+    (OrderItem Expr))
 
 -- A number of rows is below 2^64.
 unfoldable pub Limit : Form (Option Limits)
@@ -71,5 +79,6 @@ Limit =
 -- a query
 unfoldable pub Select : Form ExprTree → Form SelectTree
 Select Expr =
-    select_tree <$> Word (codes "SELECT") <*> Distinct <*> Commas (Item Expr) <*> Word (codes "FROM") <*> Tables Expr
+    select_tree <$> Word (codes "SELECT") <*> Distinct <*> Commas (Item Expr) <*> Word
+    (codes "FROM") <*> Tables Expr
     <*> Where Expr <*> Group Expr <*> Having Expr <*> Order Expr <*> Limit

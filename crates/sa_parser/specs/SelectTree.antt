@@ -70,7 +70,8 @@ abbrev pub having_place_of : Option (ℕ × ExprTree) → ℕ
 having_place_of None = 0
 having_place_of (Some having) = having.0
 
-abbrev pub select_tree : ℕ → Bool → List ItemTree → ℕ → List TableTree → Option ExprTree → List GroupTree → Option (ℕ × ExprTree) → List OrderTree → Option Limits → SelectTree
+abbrev pub select_tree : ℕ → Bool → List ItemTree → ℕ → List TableTree → Option ExprTree
+    → List GroupTree → Option (ℕ × ExprTree) → List OrderTree → Option Limits → SelectTree
 select_tree select distinct items from tables filter group having order limits = record {
   distinct = distinct;
   items = items;

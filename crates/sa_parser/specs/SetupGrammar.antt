@@ -54,17 +54,22 @@ KeyWord = Word (codes "KEY") <|> Word (codes "INDEX")
 
 unfoldable pub Key : Form Part
 Key =
-    (λ _ _ columns. part.Key (key None true true columns)) <$> Word (codes "PRIMARY") <*> Word (codes "KEY") <*> Columns
-    <|> ((λ _ _ name columns. part.Key (key name true false columns)) <$> Word (codes "UNIQUE") <*> Perhaps KeyWord <*> Perhaps NameText <*> Columns
-    <|> (λ _ name columns. part.Key (key name false false columns)) <$> KeyWord <*> Perhaps NameText <*> Columns)
+    (λ _ _ columns. part.Key (key None true true columns)) <$> Word (codes "PRIMARY") <*> Word
+    (codes "KEY") <*> Columns
+    <|> ((λ _ _ name columns. part.Key (key name true false columns)) <$> Word
+    (codes "UNIQUE") <*> Perhaps KeyWord <*> Perhaps NameText <*> Columns
+    <|> (λ _ name columns. part.Key (key name false false columns)) <$> KeyWord <*> Perhaps
+    NameText <*> Columns)
 
 unfoldable pub Definition : Form Parts
-Definition = Chain (with_part no_parts <$> (Column <|> Key)) with_part ((λ _ next. next) <$> Sign signs.Comma <*> (Column <|> Key))
+Definition = Chain (with_part no_parts <$> (Column <|> Key)) with_part
+    ((λ _ next. next) <$> Sign signs.Comma <*> (Column <|> Key))
 
 -- An engine is named, and says nothing more.
 unfoldable pub Create : Form CreateTree
 Create =
-    Chain (create_tree <$> Word (codes "CREATE") <*> Word (codes "TABLE") <*> Name <*> Brackets Definition) (λ tree _. tree)
+    Chain (create_tree <$> Word (codes "CREATE") <*> Word
+    (codes "TABLE") <*> Name <*> Brackets Definition) (λ tree _. tree)
     ((λ engine _ _. engine) <$> Word (codes "ENGINE") <*> Perhaps (Sign signs.Equal) <*> Name)
 
 -- a number with or without a sign, a text, or NULL
@@ -78,7 +83,8 @@ Tuple = Placed tuple_tree (Brackets (Commas Literal))
 
 unfoldable pub Insert : Form InsertTree
 Insert =
-    insert_tree <$> Word (codes "INSERT") <*> Word (codes "INTO") <*> Name <*> Perhaps (Brackets (Commas Name)) <*> Word (codes "VALUES") <*> Commas Tuple
+    insert_tree <$> Word (codes "INSERT") <*> Word (codes "INTO") <*> Name <*> Perhaps
+    (Brackets (Commas Name)) <*> Word (codes "VALUES") <*> Commas Tuple
 
 -- a statement that sets tables up
 unfoldable pub setup : Form Statement

@@ -26,7 +26,8 @@ plain_column name kind = Column (record { name = name.name; kind = kind; not_nul
 
 -- A key has no name where none is written. A primary key is unique.
 abbrev pub key : Option (List ℕ) → Bool → Bool → List (List ℕ) → KeyTree
-key name unique primary columns = record { name = name; unique = unique; primary = primary; columns = columns }
+key name unique primary columns =
+    record { name = name; unique = unique; primary = primary; columns = columns }
 
 -- a key of one column
 abbrev pub own_key : ColumnTree → Bool → KeyTree
@@ -45,7 +46,8 @@ no_parts = record { columns = []; keys = [] }
 
 -- Keys are in the order of the text, a column's own at its column.
 abbrev pub with_part : Parts → Part → Parts
-with_part parts (Column column keys) = record { columns = parts.columns ++ column ∷ []; keys = parts.keys ++ keys }
+with_part parts (Column column keys) =
+    record { columns = parts.columns ++ column ∷ []; keys = parts.keys ++ keys }
 with_part parts (Key found) = record parts { keys = parts.keys ++ found ∷ [] }
 
 abbrev pub create_tree : ℕ → ℕ → NameTree → Parts → CreateTree
@@ -58,13 +60,16 @@ varchar word size = VarChar size
 -- A number is an Int where 64 bits hold it, and else a Big.
 unfoldable pub number_value : ℤ → Value
 number_value number =
-    if int_le (negsuc (2 ^ 63 - 1)) number && int_le number (pos (2 ^ 63 - 1)) then value.Int number else value.Big number
+    if int_le (negsuc (2 ^ 63 - 1)) number && int_le number (pos (2 ^ 63 - 1)) then value.Int number
+    else value.Big number
 
 -- the values of one token: a number of up to 127 bits, a text, or NULL
 unfoldable pub literal_of : TokenKind → Option Value
-literal_of (kinds.Number number) = if nat_lt number (2 ^ 127) then Some (number_value (pos number)) else None
+literal_of (kinds.Number number) =
+    if nat_lt number (2 ^ 127) then Some (number_value (pos number)) else None
 literal_of (kinds.Text text) = Some (value.Text text)
-literal_of (kinds.Word word) = if is_word (codes "NULL") (kinds.Word word) then Some value.Null else None
+literal_of (kinds.Word word) =
+    if is_word (codes "NULL") (kinds.Word word) then Some value.Null else None
 literal_of kind = None
 
 abbrev pub literal_in : Token → Option Value
@@ -81,4 +86,5 @@ abbrev pub tuple_tree : ℕ → List Value → TupleTree
 tuple_tree place values = record { values = values; place = place }
 
 abbrev pub insert_tree : ℕ → ℕ → NameTree → Option (List NameTree) → ℕ → List TupleTree → InsertTree
-insert_tree insert into table columns values tuples = record { table = table; columns = columns; tuples = tuples }
+insert_tree insert into table columns values tuples =
+    record { table = table; columns = columns; tuples = tuples }

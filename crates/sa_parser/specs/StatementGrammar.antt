@@ -21,12 +21,14 @@ use Rattle.sa_parser.specs.SelectGrammar.{Select}
 
 -- `FORMAT = JSON`, which may be left out
 unfoldable pub Format : Form (Option ℕ)
-Format = Perhaps ((λ place _ _. place) <$> Word (codes "FORMAT") <*> Sign signs.Equal <*> Word (codes "JSON"))
+Format = Perhaps
+    ((λ place _ _. place) <$> Word (codes "FORMAT") <*> Sign signs.Equal <*> Word (codes "JSON"))
 
 -- what switches the trace on or off
 unfoldable pub switch_of : TokenKind → Option Bool
 switch_of (Text text) =
-    if bytes_eq text (codes "enabled=on") then Some true else (if bytes_eq text (codes "enabled=off") then Some false else None)
+    if bytes_eq text (codes "enabled=on") then Some true
+    else (if bytes_eq text (codes "enabled=off") then Some false else None)
 switch_of kind = None
 
 abbrev pub switch_in : Token → Option Bool
@@ -43,7 +45,8 @@ steps_in token = positive (number_of (2 ^ 40 + 1) token.kind)
 unfoldable pub Explain : Form ExprTree → Form Statement
 Explain Expr =
     (λ _ _ statement. statement) <$> Word (codes "EXPLAIN") <*> Format <*>
-    ((λ _ _ id. said.Show ask.Explain id) <$> Word (codes "FOR") <*> Word (codes "CONNECTION") <*> Number <|> said.Explain <$> Select Expr)
+    ((λ _ _ id. said.Show ask.Explain id) <$> Word (codes "FOR") <*> Word
+    (codes "CONNECTION") <*> Number <|> said.Explain <$> Select Expr)
 
 unfoldable pub Analyze : Form ExprTree → Form Statement
 Analyze Expr = (λ _ _ tree. said.Analyze tree) <$> Word (codes "ANALYZE") <*> Format <*> Select Expr
@@ -51,32 +54,41 @@ Analyze Expr = (λ _ _ tree. said.Analyze tree) <$> Word (codes "ANALYZE") <*> F
 unfoldable pub Show : Form Statement
 Show =
     (λ _ kind _ _ id. said.Show kind id) <$> Word (codes "SHOW")
-    <*> ((λ _. ask.Explain) <$> Word (codes "EXPLAIN") <|> (λ _. ask.Analyze) <$> Word (codes "ANALYZE"))
+    <*> ((λ _. ask.Explain) <$> Word (codes "EXPLAIN") <|> (λ _. ask.Analyze) <$> Word
+    (codes "ANALYZE"))
     <*> Format <*> Word (codes "FOR") <*> Number
 
 -- KILL alone ends the session.
 unfoldable pub Kill : Form Statement
 Kill =
     (λ _ kind id. said.Kill (or_else killed.Connection kind) id) <$> Word (codes "KILL")
-    <*> Perhaps ((λ _. killed.Connection) <$> Word (codes "CONNECTION") <|> (λ _. killed.Query) <$> Word (codes "QUERY"))
+    <*> Perhaps
+    ((λ _. killed.Connection) <$> Word (codes "CONNECTION") <|> (λ _. killed.Query) <$> Word
+    (codes "QUERY"))
     <*> Number
 
 unfoldable pub Set : Form Statement
 Set =
     (λ _ _ statement. statement) <$> Word (codes "SET") <*> Perhaps (Word (codes "SESSION")) <*>
-    ((λ _ _ on. said.SetTrace on) <$> Word (codes "optimizer_trace") <*> Sign signs.Equal <*> One switch_in
-    <|> (λ _ _ steps. said.SetLimit steps) <$> Word (codes "max_row_steps") <*> Sign signs.Equal <*> One steps_in)
+    ((λ _ _ on. said.SetTrace on) <$> Word
+    (codes "optimizer_trace") <*> Sign signs.Equal <*> One switch_in
+    <|> (λ _ _ steps. said.SetLimit steps) <$> Word
+    (codes "max_row_steps") <*> Sign signs.Equal <*> One steps_in)
 
 unfoldable pub TraceRows : Form Statement
 TraceRows =
-    (λ _ _ _ _ _ _. said.TraceRows) <$> Word (codes "SELECT") <*> Sign signs.Star <*> Word (codes "FROM")
+    (λ _ _ _ _ _ _. said.TraceRows) <$> Word (codes "SELECT") <*> Sign signs.Star <*> Word
+    (codes "FROM")
     <*> Word (codes "information_schema") <*> Sign signs.Dot <*> Word (codes "optimizer_trace")
 
 unfoldable pub Wait : Form Statement
-Wait = (λ _ _ id _ at. said.Wait id at) <$> Word (codes "WAIT") <*> Word (codes "FOR") <*> Number <*> Word (codes "AT") <*> NumberBelow (2 ^ 40 + 1)
+Wait = (λ _ _ id _ at. said.Wait id at) <$> Word (codes "WAIT") <*> Word
+    (codes "FOR") <*> Number <*> Word (codes "AT") <*> NumberBelow (2 ^ 40 + 1)
 
 -- a statement of a session, with expressions that nest so deep
 unfoldable pub statement : ℕ → Form Statement
 statement levels =
-    TraceRows <|> (said.Select <$> Select (nested levels rule.Expression) <|> (Explain (nested levels rule.Expression)
+    TraceRows <|>
+    (said.Select <$> Select (nested levels rule.Expression) <|>
+    (Explain (nested levels rule.Expression)
     <|> (Analyze (nested levels rule.Expression) <|> (Show <|> (Kill <|> (Set <|> Wait))))))

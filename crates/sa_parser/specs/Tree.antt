@@ -26,7 +26,8 @@ tree place node = roll-ExprTree (record { node = node; place = place })
 
 -- The expressions of one token: a number of up to 127 bits, a text, NULL, TRUE and FALSE.
 unfoldable pub atom_of : TokenKind → Option ExprNode
-atom_of (kinds.Number number) = if nat_lt number (2 ^ 127) then Some (node.Number (pos number)) else None
+atom_of (kinds.Number number) =
+    if nat_lt number (2 ^ 127) then Some (node.Number (pos number)) else None
 atom_of (kinds.Text text) = Some (node.Text text)
 atom_of (kinds.Word word) =
     if is_word (codes "NULL") (kinds.Word word) then Some node.Null
@@ -46,7 +47,8 @@ column_tree first (Some second) = tree first.place (node.Name (Some first.name) 
 unfoldable pub aggregate_of : TokenKind → Option AggregateCall
 aggregate_of kind =
     if is_word (codes "SUM") kind then Some Sum
-    else (if is_word (codes "MIN") kind then Some Min else (if is_word (codes "MAX") kind then Some Max else None))
+    else (if is_word (codes "MIN") kind then Some Min
+    else (if is_word (codes "MAX") kind then Some Max else None))
 
 abbrev pub aggregate_in : Token → Option (ℕ × AggregateCall)
 aggregate_in token = option_map (λ call. (token.start, call)) (aggregate_of token.kind)
@@ -62,7 +64,8 @@ count_tree place (Some argument) = aggregate_tree (place, Count) argument
 
 -- A minus gives a number its other sign; the least number of 128 bits has none.
 abbrev pub minus_node : ExprTree → ExprNode-F ExprNode ExprTree → ExprNode
-minus_node inner (ExprNode-F.Number number) = if int_eq number (negsuc (2 ^ 127 - 1)) then node.Negate inner else node.Number (pos 0 -ℤ number)
+minus_node inner (ExprNode-F.Number number) = if int_eq number (negsuc (2 ^ 127 - 1))
+    then node.Negate inner else node.Number (pos 0 -ℤ number)
 minus_node inner other = node.Negate inner
 
 -- It stands at the minus.
@@ -83,7 +86,8 @@ additive_in token =
     else (if is_sign signs.Minus token.kind then Some (true, token.start) else None)
 
 abbrev pub sum_tree : ExprTree → (Bool × ℕ) × ExprTree → ExprTree
-sum_tree left next = tree next.0.1 (if next.0.0 then node.Subtract left next.1 else node.Add left next.1)
+sum_tree left next =
+    tree next.0.1 (if next.0.0 then node.Subtract left next.1 else node.Add left next.1)
 
 -- `!=` is `<>`.
 abbrev pub comparison_of : TokenKind → Option CompareOp

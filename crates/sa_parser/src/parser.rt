@@ -111,7 +111,8 @@ fn fault_behind(
     count: usize,
 ) -> Result<ParseFault, OutOfMemory>
     requires { count ≤ length tokens.now }
-    ensures { IfOk result (TellsFault (form_of grammar) (take count tokens.now) (drop count tokens.now)) }
+    ensures { IfOk result
+        (TellsFault (form_of grammar) (take count tokens.now) (drop count tokens.now)) }
 {
     let Some(token) = tokens.get(count) else {
         return Ok(ParseFault::Syntax {

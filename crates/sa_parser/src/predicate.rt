@@ -113,7 +113,8 @@ fn plain_range_part(
     levels: usize,
     cursor: &mut Cursor<'_>,
 ) -> Result<PlacedTail, ReadFault>
-    ensures { Reads (either (sees_word (codes "BETWEEN")) (reading.between_part (reading.nested_read levels))
+    ensures { Reads
+        (either (sees_word (codes "BETWEEN")) (reading.between_part (reading.nested_read levels))
         (reading.among_part (reading.nested_read levels)) cursor.old) result cursor.new }
 {
     if cursor.sees_word("BETWEEN") {

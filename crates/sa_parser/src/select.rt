@@ -32,7 +32,8 @@ pub(crate) fn select(
     levels: usize,
     cursor: &mut Cursor<'_>,
 ) -> Result<SelectTree, ReadFault>
-    ensures { Reads (reading.select (nested_read levels rules.Expression) cursor.old) result cursor.new }
+    ensures { Reads
+        (reading.select (nested_read levels rules.Expression) cursor.old) result cursor.new }
 {
     cursor.word("SELECT")?;
     let distinct = distinct(cursor)?;

@@ -15,7 +15,8 @@ pub record Chosen : Type 0 where
 abbrev pub chosen_cell : List Table → List Chosen → (position column : ℕ) → Value
 chosen_cell tables [] position column = Null
 chosen_cell tables (one ∷ others) position column =
-    if one.position == position then cell_at tables one.table one.row column else chosen_cell tables others position column
+    if one.position == position then cell_at tables one.table one.row column
+    else chosen_cell tables others position column
 
 -- what the columns of expressions stand for; without groups no slot is there
 abbrev pub choice_of : List Table → List Chosen → Choice

@@ -36,10 +36,12 @@ kinds_of tables levels = record { column = column_kind tables levels; slot = λ 
 -- What a tree names is a column of one of these levels' tables.
 abbrev pub IsInSight : List Table → List Level → Name → Type 0
 IsInSight tables levels (column position number) =
-    Any (λ (level : Level). (level.position ≡ position) × (number < column_count tables level.table)) levels
+    Any (λ (level : Level). (level.position ≡ position)
+    × (number < column_count tables level.table)) levels
 IsInSight tables levels (slot number) = ⊥
 
--- An expression is well-typed, its arithmetic has static intervals, and it names columns in sight alone.
+-- An expression is well-typed, its arithmetic has static intervals, and it names columns in sight
+-- alone.
 pub record IsLawfulExpr (tables : List Table) (levels : List Level) (expr : Expr) : Type 0 where
   pub names : All (IsInSight tables levels) (expr_names expr)
   pub typed : is_proper (expr_kind (kinds_of tables levels) expr) ≡ true
@@ -49,7 +51,8 @@ pub record IsLawfulCond (tables : List Table) (levels : List Level) (cond : Cond
   pub names : All (IsInSight tables levels) (cond_names cond)
   pub typed : is_well_typed (kinds_of tables levels) cond ≡ true
 
--- A level's table is there, no level before it has its position, and its conditions see its table and those before.
+-- A level's table is there, no level before it has its position, and its conditions see its table
+-- and those before.
 pub record IsLawfulLevel (tables : List Table) (before : List Level) (level : Level) : Type 0 where
   pub there : level.table < length tables
   pub own_position : All (λ (earlier : Level). earlier.position ≢ level.position) before

@@ -50,11 +50,13 @@ abbrev pub number_in : ExprTree → Option ℤ
 number_in tree = number_at_node (out-ExprNode tree.node)
 
 abbrev pub comparison_of : CompareOp → Option (List ℕ) → Option ℤ → Option Comparison
-comparison_of op (Some column) (Some literal) = Some (record { column = column; op = op; literal = literal })
+comparison_of op (Some column) (Some literal) =
+    Some (record { column = column; op = op; literal = literal })
 comparison_of op column literal = None
 
 abbrev pub comparison_at_node : ExprNode-F ExprNode ExprTree → Option Comparison
-comparison_at_node (ExprNode-F.Compare op left right) = comparison_of op (column_in left) (number_in right)
+comparison_at_node (ExprNode-F.Compare op left right) =
+    comparison_of op (column_in left) (number_in right)
 comparison_at_node node = None
 
 abbrev pub comparison_in : ExprTree → Option Comparison
@@ -67,7 +69,8 @@ column_of_item item = None
 
 -- a table of FROM, without an alias and without a join
 abbrev pub table_of : TableTree → Option (List ℕ)
-table_of tree = if is_none tree.alias && not tree.joined && is_none tree.on then Some tree.name.name else None
+table_of tree =
+    if is_none tree.alias && not tree.joined && is_none tree.on then Some tree.name.name else None
 
 -- the one column that is selected, and the one table
 abbrev pub selected : SelectTree → Option (List ℕ)
@@ -80,17 +83,22 @@ source tree = option_and_then table_of (only tree.from)
 abbrev pub filter_of : List ℕ → Option ExprTree → Option Comparison
 filter_of column None = None
 filter_of column (Some tree) =
-    option_and_then (λ (comparison : Comparison). if same_name comparison.column column then Some comparison else None) (comparison_in tree)
+    option_and_then
+    (λ (comparison : Comparison). if same_name comparison.column column then Some comparison
+    else None) (comparison_in tree)
 
 -- whether a SELECT has neither DISTINCT nor anything behind WHERE
 abbrev pub is_short : SelectTree → Bool
 is_short tree =
-    not tree.distinct && is_empty tree.group && is_none tree.having && is_empty tree.order && is_none tree.limit && (tree.offset == 0)
+    not tree.distinct && is_empty tree.group && is_none tree.having && is_empty tree.order
+    && is_none tree.limit && (tree.offset == 0)
 
 -- The SELECT in the form, if it is in it.
 abbrev pub first_form : SelectTree → Option FirstForm
 first_form tree =
     if is_short tree
-    then option_and_then (λ table. option_and_then (λ column. option_map (λ filter. record { table = table; filter = filter })
+    then option_and_then
+    (λ table. option_and_then
+    (λ column. option_map (λ filter. record { table = table; filter = filter })
     (filter_of column tree.filter)) (selected tree)) (source tree)
     else None

@@ -1,4 +1,5 @@
--- The plan of a SELECT of the form that is planned today, over one table that is there and a column of numbers.
+-- The plan of a SELECT of the form that is planned today, over one table that is there and a column
+-- of numbers.
 use Rattle.std.specs.Prelude.{ℕ, ℤ, pos, negsuc, ◌+◌, ◌*◌, Bool, true, false, ◌&&◌, int_le, nat_lt, List, [], ◌∷◌, length, Option, Some, None, if◌then◌else◌}
 use Rattle.std.specs.List.{position_or_len}
 use Rattle.sa_value.specs.declared.value.Value.TheVariants.{Int}
@@ -30,7 +31,8 @@ abbrev pub table_number : List Table → List ℕ → ℕ
 table_number tables name = position_or_len (λ (table : Table). same_name table.def.name name) tables
 
 abbrev pub column_number : Table → List ℕ → ℕ
-column_number table name = position_or_len (λ (column : ColumnDef). same_name column.name name) table.def.columns
+column_number table name =
+    position_or_len (λ (column : ColumnDef). same_name column.name name) table.def.columns
 
 -- a full scan: 20 for the table and 5 for each row
 abbrev pub scan_cost : ℕ → ℕ

@@ -1,4 +1,5 @@
--- Which answer the text of a statement has: a canonical text and what the statement does, or the reason why it is refused.
+-- Which answer the text of a statement has: a canonical text and what the statement does, or the
+-- reason why it is refused.
 use Rattle.std.specs.Prelude.{◌≡◌, ◌≢◌, ℕ, List, [], ◌∷◌, Option, Some, None, option_and_then, option_map}
 use Rattle.std.specs.declared.result.Result.{Result}
 use Rattle.std.specs.declared.result.Result.TheVariants.{Ok, Err}
@@ -39,7 +40,8 @@ select_work plan = work.Select (record { plan = plan })
 
 -- What a statement does, if that is built.
 abbrev pub work_of : List Table → Statement → Option Work
-work_of tables (tree.Select select) = option_map select_work (option_and_then (first_plan tables) (first_form select))
+work_of tables (tree.Select select) =
+    option_map select_work (option_and_then (first_plan tables) (first_form select))
 work_of tables (tree.Show kind id) = Some (work.Show kind id)
 work_of tables (tree.Kill kind id) = Some (work.Kill kind id)
 work_of tables (tree.SetLimit limit) = Some (work.SetLimit limit)
@@ -49,16 +51,23 @@ work_of tables statement = None
 -- The answer to a statement: what it does, or that its first token isn't supported.
 abbrev pub built_or_refused : List Token → Statement → Option Work → Result Prepared Refusal
 built_or_refused tokens statement None = Err (refusal.NotSupported (first_place tokens))
-built_or_refused tokens statement (Some does) = Ok (record { text = canonical_statement statement; work = does })
+built_or_refused tokens statement (Some does) =
+    Ok (record { text = canonical_statement statement; work = does })
 
 abbrev pub answer_to : List Table → List Token → Statement → Result Prepared Refusal
 answer_to tables tokens statement = built_or_refused tokens statement (work_of tables statement)
 
--- The text is refused for the leftmost fault of its tokens, else for the first fault in them, else it has its statement's answer.
-pub data Prepares (tables : List Table) (text : List ℕ) (answer : Result Prepared Refusal) : Type 0 where
-  has_no_tokens : (kind : LexKind) (place : ℕ) (found : IsFaulty text kind place) (is : answer ≡ Err (refusal.Lex kind place)) →
+-- The text is refused for the leftmost fault of its tokens, else for the first fault in them, else
+-- it has its statement's answer.
+pub data Prepares (tables : List Table) (text : List ℕ)
+    (answer : Result Prepared Refusal) : Type 0 where
+  has_no_tokens : (kind : LexKind) (place : ℕ) (found : IsFaulty text kind place)
+      (is : answer ≡ Err (refusal.Lex kind place)) →
       Prepares tables text answer
-  is_no_statement : (tokens : List Token) (are : AreTokens 0 text tokens) (fault : ParseFault) (found : IsAnswer IsStatement tokens (Err fault))
-      (known : fault ≢ parse.OutOfMemory) (is : answer ≡ Err (refusal_of fault)) → Prepares tables text answer
-  is_statement : (tokens : List Token) (are : AreTokens 0 text tokens) (statement : Statement) (read : IsAnswer IsStatement tokens (Ok statement))
+  is_no_statement : (tokens : List Token) (are : AreTokens 0 text tokens) (fault : ParseFault)
+      (found : IsAnswer IsStatement tokens (Err fault))
+      (known : fault ≢ parse.OutOfMemory) (is : answer ≡ Err (refusal_of fault))
+      → Prepares tables text answer
+  is_statement : (tokens : List Token) (are : AreTokens 0 text tokens) (statement : Statement)
+      (read : IsAnswer IsStatement tokens (Ok statement))
       (is : answer ≡ answer_to tables tokens statement) → Prepares tables text answer

@@ -125,7 +125,8 @@ fn plan_over(
 ) -> Result<Plan, OutOfMemory>
     requires there { place.table < length tables.now }
     requires literal { is_int form.now.filter.literal ≡ true }
-    ensures { IfOk result (λ plan. plan ≡ plan_over tables.now place.table place.column (form_at form.now)) }
+    ensures { IfOk result
+        (λ plan. plan ≡ plan_over tables.now place.table place.column (form_at form.now)) }
 {
     let rows = tables.count(place.table);
     let mut levels = Sequence::new(alloc);

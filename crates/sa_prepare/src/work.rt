@@ -18,7 +18,8 @@ use std::sync::Arc;
 
 /// The plan of a SELECT, if it is built.
 fn plan_of(alloc: Global, tables: &Tables, select: &SelectTree) -> Result<Option<Plan>, OutOfMemory>
-    ensures { IfOk result (λ plan. plan ≡ option_and_then (first_plan tables.now) (first_form select.now)) }
+    ensures { IfOk result
+        (λ plan. plan ≡ option_and_then (first_plan tables.now) (first_form select.now)) }
 {
     match first_form(select) {
         None => Ok(None),

@@ -54,7 +54,8 @@ node_text (ExprNode-F.Name table column) = canonical_column table column
 node_text (ExprNode-F.Aggregate call argument) = call_name call ++ bracketed (argument_text argument)
 node_text (ExprNode-F.Negate x) = bracketed (codes "-" ++ x)
 node_text (ExprNode-F.Compare op x y) = operation_text x (comparison_sign op) y
-node_text (ExprNode-F.IsNull x negated) = bracketed (x ++ codes " IS " ++ not_text negated ++ codes "NULL")
+node_text (ExprNode-F.IsNull x negated) =
+    bracketed (x ++ codes " IS " ++ not_text negated ++ codes "NULL")
 node_text (ExprNode-F.Between x low high negated) =
     bracketed (x ++ codes " " ++ not_text negated ++ codes "BETWEEN " ++ low ++ codes " AND " ++ high)
 node_text (ExprNode-F.Among x list negated) =

@@ -8,7 +8,8 @@ use Rattle.sa_lexer.specs.Reserved.{is_reserved}
 
 -- A word has word bytes alone, at least one, and doesn't begin with a digit.
 abbrev pub is_word : List ℕ → Bool
-is_word name = not (length name == 0) && (not (is_ascii_digit (slice_index name 0)) && list_all is_word_byte name)
+is_word name = not (length name == 0)
+    && (not (is_ascii_digit (slice_index name 0)) && list_all is_word_byte name)
 
 -- A name stands bare where it is a word that isn't reserved, and else in backquotes, which are byte 96.
 unfoldable pub canonical_name : List ℕ → List ℕ

@@ -1,8 +1,8 @@
 -- How something is written between quotes.
 use Rattle.std.specs.Prelude.{ℕ, Bool, not, List, [], ◌∷◌, ◌++◌, ◌&&◌, ◌||◌, ◌==◌, flat_map, if◌then◌else◌}
 
--- Between quotes the quote itself is doubled, and in a text a backslash too. A name is in backquotes, which
--- are byte 96, and knows no backslash.
+-- Between quotes the quote itself is doubled, and in a text a backslash too. A name is in
+-- backquotes, which are byte 96, and knows no backslash.
 abbrev pub is_doubled : ℕ → ℕ → Bool
 is_doubled quote byte = byte == quote || (byte == 92 && not (quote == 96))
 

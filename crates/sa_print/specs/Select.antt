@@ -40,7 +40,8 @@ join_text joined = if joined then codes " JOIN " else codes ", "
 -- the tables of FROM
 abbrev pub tables_text : List TableTree → List ℕ
 tables_text [] = []
-tables_text (first ∷ rest) = table_text first ++ flat_map (λ table. join_text table.joined ++ table_text table) rest
+tables_text (first ∷ rest) =
+    table_text first ++ flat_map (λ table. join_text table.joined ++ table_text table) rest
 
 abbrev pub group_text : GroupTree → List ℕ
 group_text item = canonical_expr item.value

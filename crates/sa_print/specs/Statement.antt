@@ -35,7 +35,8 @@ canonical_statement (Explain tree) = codes "EXPLAIN " ++ canonical_select tree
 canonical_statement (Analyze tree) = codes "ANALYZE " ++ canonical_select tree
 canonical_statement (Show kind id) = codes "SHOW " ++ ask_word kind ++ codes " FOR " ++ decimal id
 canonical_statement (Kill kind id) = codes "KILL " ++ kill_word kind ++ codes " " ++ decimal id
-canonical_statement (SetTrace on) = codes "SET optimizer_trace = 'enabled=" ++ switch_word on ++ codes "'"
+canonical_statement (SetTrace on) =
+    codes "SET optimizer_trace = 'enabled=" ++ switch_word on ++ codes "'"
 canonical_statement (SetLimit steps) = codes "SET max_row_steps = " ++ decimal steps
 canonical_statement TraceRows = codes "SELECT * FROM information_schema.optimizer_trace"
 canonical_statement (Wait id at) = codes "WAIT FOR " ++ decimal id ++ codes " AT " ++ decimal at

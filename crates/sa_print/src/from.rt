@@ -32,7 +32,8 @@ impl Printer {
 
     /// Writes a table that isn't the first.
     fn next_table(&mut self, table: &TableTree) -> Result<(), OutOfMemory>
-        ensures { OnOk result (self.new ≡ self.old ++ join_text table.now.joined ++ table_text table.now) }
+        ensures { OnOk result
+            (self.new ≡ self.old ++ join_text table.now.joined ++ table_text table.now) }
     {
         self.push(if table.joined { " JOIN " } else { ", " })?;
         self.table(table)

@@ -43,7 +43,8 @@ impl Printer {
     /// Writes a text, an expression and a closing bracket.
     #[cycle(expr)]
     pub(crate) fn closed(&mut self, before: &str, value: &ExprTree) -> Result<(), OutOfMemory>
-        ensures { OnOk result (self.new ≡ self.old ++ before.now ++ canonical_expr value.now ++ codes ")") }
+        ensures { OnOk result
+            (self.new ≡ self.old ++ before.now ++ canonical_expr value.now ++ codes ")") }
     {
         self.push(before)?;
         self.expr(value)?;
@@ -68,7 +69,8 @@ impl Printer {
     /// Writes expressions with a text between them.
     #[cycle(expr)]
     pub(crate) fn exprs(&mut self, members: &[ExprTree], between: &str) -> Result<(), OutOfMemory>
-        ensures { OnOk result (self.new ≡ self.old ++ joined between.now (map canonical_expr members.now)) }
+        ensures { OnOk result
+            (self.new ≡ self.old ++ joined between.now (map canonical_expr members.now)) }
     {
         match members {
             [] => Ok(()),

@@ -29,7 +29,8 @@ kind_of (tree.VarChar characters) = kinds.VarChar characters
 abbrev pub column_of : ColumnTree → ColumnDef
 column_of column = record { name = column.name; kind = kind_of column.kind; not_null = column.not_null }
 
--- The number of the column that a key names. A name of no column stands for a number past them, each name for one of its own.
+-- The number of the column that a key names. A name of no column stands for a number past them,
+-- each name for one of its own.
 abbrev pub part_of : List ColumnTree → List (List ℕ) → List ℕ → ℕ
 part_of columns names name =
     let index = position_or_len (λ (column : ColumnTree). same_name column.name name) columns in

@@ -30,7 +30,8 @@ schedule_fault sessions before tree =
 
 -- No number of a SCHEDULE is faulty.
 abbrev pub HasGoodNumbers : ℕ → List NumberTree → Type 0
-HasGoodNumbers sessions trees = (index : ℕ) (tree : NumberTree) → slice_get trees index ≡ Some tree → schedule_fault sessions index tree ≡ None
+HasGoodNumbers sessions trees = (index : ℕ) (tree : NumberTree) → slice_get trees index ≡ Some tree
+    → schedule_fault sessions index tree ≡ None
 
 -- the sessions that a SCHEDULE numbers
 abbrev pub numbers_in : List NumberTree → List ℕ
@@ -39,16 +40,20 @@ numbers_in trees = map (λ (tree : NumberTree). tree.number) trees
 -- A directive says this. The next piece begins so many bytes behind its `;`.
 abbrev pub Directs : Said → Piece → Directive → List ℕ → Said → (skipped : ℕ) → Type 0
 Directs said piece (Quantum tree) behind next skipped =
-    (is_from_to 1 64 tree.number ≡ true) × (next ≡ record said { quantum = tree.number }) × (skipped ≡ 0)
+    (is_from_to 1 64 tree.number ≡ true) × (next ≡ record said { quantum = tree.number })
+    × (skipped ≡ 0)
 Directs said piece (Turns tree) behind next skipped =
-    (is_from_to 1 1000000000 tree.number ≡ true) × (next ≡ record said { turns = tree.number }) × (skipped ≡ 0)
+    (is_from_to 1 1000000000 tree.number ≡ true) × (next ≡ record said { turns = tree.number })
+    × (skipped ≡ 0)
 Directs said piece (Load name count) behind next skipped =
-    (after : List Table) × Loads said.tables piece name count behind after skipped × (next ≡ record said { tables = after })
+    (after : List Table) × Loads said.tables piece name count behind after skipped
+    × (next ≡ record said { tables = after })
 Directs said piece (Session tree) behind next skipped =
     (session_fault (length said.sessions) tree ≡ None)
     × (next ≡ record said { stage = InSession; sessions = said.sessions ++ [] ∷ [] }) × (skipped ≡ 0)
 Directs said piece (Schedule trees) behind next skipped =
-    HasGoodNumbers (length said.sessions) trees × (next ≡ record said { stage = Scheduled; schedule = numbers_in trees }) × (skipped ≡ 0)
+    HasGoodNumbers (length said.sessions) trees
+    × (next ≡ record said { stage = Scheduled; schedule = numbers_in trees }) × (skipped ≡ 0)
 
 -- The first faulty number of a SCHEDULE.
 pub record HasBadNumber (sessions : ℕ) (trees : List NumberTree) (fault : Fault) : Type 0 where
@@ -57,14 +62,19 @@ pub record HasBadNumber (sessions : ℕ) (trees : List NumberTree) (fault : Faul
   pub kind : ScriptKind
   pub there : slice_get trees index ≡ Some tree
   pub bad : schedule_fault sessions index tree ≡ Some kind
-  pub first : (earlier : ℕ) (other : NumberTree) → earlier < index → slice_get trees earlier ≡ Some other → schedule_fault sessions earlier other ≡ None
+  pub first : (earlier : ℕ) (other : NumberTree) → earlier < index
+      → slice_get trees earlier ≡ Some other → schedule_fault sessions earlier other ≡ None
   pub fault_is : fault ≡ fault_at kind tree.place
 
 -- A directive that is read has this fault.
 abbrev pub CantDirect : Said → Piece → Directive → List ℕ → Fault → Type 0
-CantDirect said piece (Quantum tree) behind fault = (is_from_to 1 64 tree.number ≡ false) × (fault ≡ fault_at script.BadNumber tree.place)
-CantDirect said piece (Turns tree) behind fault = (is_from_to 1 1000000000 tree.number ≡ false) × (fault ≡ fault_at script.BadNumber tree.place)
-CantDirect said piece (Load name count) behind fault = CantLoad said.tables piece name count behind fault
+CantDirect said piece (Quantum tree) behind fault =
+    (is_from_to 1 64 tree.number ≡ false) × (fault ≡ fault_at script.BadNumber tree.place)
+CantDirect said piece (Turns tree) behind fault =
+    (is_from_to 1 1000000000 tree.number ≡ false) × (fault ≡ fault_at script.BadNumber tree.place)
+CantDirect said piece (Load name count) behind fault =
+    CantLoad said.tables piece name count behind fault
 CantDirect said piece (Session tree) behind fault =
-    (kind : ScriptKind) × (session_fault (length said.sessions) tree ≡ Some kind) × (fault ≡ fault_at kind tree.place)
+    (kind : ScriptKind) × (session_fault (length said.sessions) tree ≡ Some kind)
+    × (fault ≡ fault_at kind tree.place)
 CantDirect said piece (Schedule trees) behind fault = HasBadNumber (length said.sessions) trees fault

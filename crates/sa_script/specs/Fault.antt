@@ -1,4 +1,5 @@
--- A fault of a script: its kind, its byte in the script, and the number of the row that is at fault, if one is.
+-- A fault of a script: its kind, its byte in the script, and the number of the row that is at
+-- fault, if one is.
 use Rattle.std.specs.Prelude.{ℕ, Option, Some, None}
 use Rattle.sa_script.specs.declared.fault.ScriptKind.{ScriptKind}
 

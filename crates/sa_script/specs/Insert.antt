@@ -26,7 +26,8 @@ has_column def name = list_any (λ (column : ColumnDef). same_name column.name n
 abbrev pub name_fault : TableDef → List NameTree → NameTree → Option ScriptKind
 name_fault def before name =
     if not (has_column def name.name) then Some script.UnknownColumn
-    else (if list_any (λ (other : NameTree). same_name other.name name.name) before then Some script.DuplicateName else None)
+    else (if list_any (λ (other : NameTree). same_name other.name name.name) before
+    then Some script.DuplicateName else None)
 
 -- the fault of the name at an index
 abbrev pub name_fault_at : TableDef → List NameTree → ℕ → NameTree → Option ScriptKind
@@ -39,12 +40,14 @@ pub record HasBadName (def : TableDef) (names : List NameTree) (fault : Fault) :
   pub kind : ScriptKind
   pub there : slice_get names index ≡ Some name
   pub bad : name_fault_at def names index name ≡ Some kind
-  pub first : (earlier : ℕ) (other : NameTree) → earlier < index → slice_get names earlier ≡ Some other → name_fault_at def names earlier other ≡ None
+  pub first : (earlier : ℕ) (other : NameTree) → earlier < index
+      → slice_get names earlier ≡ Some other → name_fault_at def names earlier other ≡ None
   pub fault_is : fault ≡ fault_at kind name.place
 
 -- No name of the column list is faulty.
 abbrev pub HasGoodNames : TableDef → List NameTree → Type 0
-HasGoodNames def names = (index : ℕ) (name : NameTree) → slice_get names index ≡ Some name → name_fault_at def names index name ≡ None
+HasGoodNames def names = (index : ℕ) (name : NameTree) → slice_get names index ≡ Some name
+    → name_fault_at def names index name ≡ None
 
 -- the names of the column list; without one they are none
 abbrev pub listed : Option (List NameTree) → List NameTree
@@ -53,14 +56,17 @@ listed (Some names) = names
 
 -- the value that stands for a name, NULL where the name isn't listed
 abbrev pub value_for : List NameTree → List Value → List ℕ → Value
-value_for names values name = slice_index_or values (position_or_len (λ (other : NameTree). same_name other.name name) names) Null
+value_for names values name = slice_index_or values
+    (position_or_len (λ (other : NameTree). same_name other.name name) names) Null
 
--- The row of a tuple: its values, or with a column list the values in their columns' places and NULL in the others. A tuple with
--- another number of values than there are names stands for a row without values.
+-- The row of a tuple: its values, or with a column list the values in their columns' places and
+-- NULL in the others. A tuple with another number of values than there are names stands for a row
+-- without values.
 abbrev pub row_for : TableDef → Option (List NameTree) → List Value → List Value
 row_for def None values = values
 row_for def (Some names) values =
-    if length values == length names then map (λ (column : ColumnDef). value_for names values column.name) def.columns else []
+    if length values == length names
+    then map (λ (column : ColumnDef). value_for names values column.name) def.columns else []
 
 abbrev pub rows_for : TableDef → InsertTree → List (List Value)
 rows_for def tree = map (λ (tuple : TupleTree). row_for def tree.columns tuple.values) tree.tuples
@@ -72,7 +78,8 @@ with_rows table (row ∷ rows) = with_rows (with_row table row) rows
 
 -- the faults of the row at an index, in the table with those before it
 abbrev pub faults_at : Table → List (List Value) → ℕ → List RowFault
-faults_at table rows index = row_faults (with_rows table (take index rows)) (slice_index_or rows index [])
+faults_at table rows index =
+    row_faults (with_rows table (take index rows)) (slice_index_or rows index [])
 
 -- Each of the first rows, so many, can be put in.
 abbrev pub InsertsFirst : ℕ → Table → List (List Value) → Type 0
@@ -106,8 +113,11 @@ pub record Inserts (tables : List Table) (tree : InsertTree) (after : List Table
   pub table : ℕ
   pub named : table_named tables tree.table.name ≡ Some table
   pub names : HasGoodNames (table_at tables table).def (listed tree.columns)
-  pub rows : InsertsFirst (length tree.tuples) (table_at tables table) (rows_for (table_at tables table).def tree)
-  pub after_is : after ≡ slice_set tables table (with_rows (table_at tables table) (rows_for (table_at tables table).def tree))
+  pub rows : InsertsFirst (length tree.tuples) (table_at tables table)
+      (rows_for (table_at tables table).def tree)
+  pub after_is : after
+      ≡ slice_set tables table
+      (with_rows (table_at tables table) (rows_for (table_at tables table).def tree))
 
 -- The table of an INSERT is there, and a name of the column list is faulty, or else a tuple.
 abbrev pub CantInsertInto : Table → InsertTree → Fault → Type 0
@@ -119,4 +129,5 @@ CantInsertInto table tree fault =
 abbrev pub CantInsert : List Table → InsertTree → Fault → Type 0
 CantInsert tables tree fault =
     IsUnknown tables tree.table fault
-    ⊎ ((table : ℕ) × (table_named tables tree.table.name ≡ Some table) × CantInsertInto (table_at tables table) tree fault)
+    ⊎ ((table : ℕ) × (table_named tables tree.table.name ≡ Some table)
+    × CantInsertInto (table_at tables table) tree fault)

@@ -1,4 +1,5 @@
--- What a LOAD DATA of a script puts into its table: the block behind its `;`, whose records are rows, and its fault.
+-- What a LOAD DATA of a script puts into its table: the block behind its `;`, whose records are
+-- rows, and its fault.
 use Rattle.std.specs.Prelude.{◌≡◌, ℕ, ◌+◌, ◌<◌, ◌⊎◌, true, false, List, [], ◌∷◌, ◌++◌, length, slice_set, Some}
 use Rattle.std.specs.Str.{IsUtf8}
 use Rattle.sa_ast.specs.declared.directive.NumberTree.{NumberTree}
@@ -38,7 +39,8 @@ pub record HasShortBlock (behind : List ℕ) (count : ℕ) (line_end : List ℕ)
 -- Behind the `;` no block of so many bytes stands. It would begin so many bytes behind the `;`.
 abbrev pub HasNoBlock : List ℕ → ℕ → ℕ → Type 0
 HasNoBlock behind count begins =
-    ((begins ≡ 0) × HasNoLineEnd behind) ⊎ ((line_end : List ℕ) × HasShortBlock behind count line_end × (begins ≡ length line_end))
+    ((begins ≡ 0) × HasNoLineEnd behind)
+    ⊎ ((line_end : List ℕ) × HasShortBlock behind count line_end × (begins ≡ length line_end))
 
 -- how the cause of a record is called
 abbrev pub cause_kind : LoadCause → ScriptKind
@@ -57,7 +59,8 @@ pub record LoadsBlock (before : Table) (block : List ℕ) (after : Table) : Type
   pub utf8 : IsUtf8 block
   pub loads : LoadsFirst (length (records_of block)) before (records_of block) after
 
--- The first record of a block that can't be a row, by its number from 1 on. The fault stands where the block begins.
+-- The first record of a block that can't be a row, by its number from 1 on. The fault stands where
+-- the block begins.
 pub record HasBadRecord (table : Table) (begins : ℕ) (block : List ℕ) (fault : Fault) : Type 0 where
   pub index : ℕ
   pub cause : LoadCause
@@ -74,10 +77,13 @@ pub record EndsInCharacter (table : Table) (begins : ℕ) (block : List ℕ) (fa
 
 -- A block that is there has this fault first.
 abbrev pub CantLoadBlock : Table → (begins : ℕ) → List ℕ → Fault → Type 0
-CantLoadBlock table begins block fault = HasBadRecord table begins block fault ⊎ EndsInCharacter table begins block fault
+CantLoadBlock table begins block fault =
+    HasBadRecord table begins block fault ⊎ EndsInCharacter table begins block fault
 
--- A LOAD DATA puts the rows of its block's records at the end of its table. The next piece begins so many bytes behind the `;`.
-pub record Loads (tables : List Table) (piece : Piece) (name : NameTree) (count : NumberTree) (behind : List ℕ) (after : List Table) (skipped : ℕ) : Type 0 where
+-- A LOAD DATA puts the rows of its block's records at the end of its table. The next piece begins
+-- so many bytes behind the `;`.
+pub record Loads (tables : List Table) (piece : Piece) (name : NameTree) (count : NumberTree)
+    (behind : List ℕ) (after : List Table) (skipped : ℕ) : Type 0 where
   pub table : ℕ
   pub named : table_named tables name.name ≡ Some table
   pub closed : piece.closed ≡ true
@@ -98,7 +104,8 @@ IsBlockMissing piece count behind fault =
     × (fault ≡ fault_at script.BlockMissing (place_behind piece + begins)))
 
 -- The block is there, and has a fault.
-pub record HasBadBlock (table : Table) (piece : Piece) (count : NumberTree) (behind : List ℕ) (fault : Fault) : Type 0 where
+pub record HasBadBlock (table : Table) (piece : Piece) (count : NumberTree) (behind : List ℕ)
+    (fault : Fault) : Type 0 where
   pub line_end : List ℕ
   pub block : List ℕ
   pub rest : List ℕ
@@ -111,4 +118,5 @@ abbrev pub CantLoad : List Table → Piece → NameTree → NumberTree → List 
 CantLoad tables piece name count behind fault =
     IsUnknown tables name fault
     ⊎ ((table : ℕ) × (table_named tables name.name ≡ Some table)
-    × (IsBlockMissing piece count behind fault ⊎ HasBadBlock (table_at tables table) piece count behind fault))
+    × (IsBlockMissing piece count behind fault
+    ⊎ HasBadBlock (table_at tables table) piece count behind fault))

@@ -13,4 +13,5 @@ table_named tables name = position (λ (table : Table). same_name table.def.name
 
 -- No table has the name.
 abbrev pub IsUnknown : List Table → NameTree → Fault → Type 0
-IsUnknown tables name fault = (table_named tables name.name ≡ None) × (fault ≡ fault_at script.UnknownTable name.place)
+IsUnknown tables name fault =
+    (table_named tables name.name ≡ None) × (fault ≡ fault_at script.UnknownTable name.place)

@@ -28,7 +28,8 @@ place_behind piece = piece.place + length piece.text + length (closing piece)
 -- The script has this piece at its place, and this behind it.
 pub record IsPiece (script : List ℕ) (piece : Piece) (behind : List ℕ) : Type 0 where
   pub source : drop piece.place script ≡ piece.text ++ closing piece ++ behind
-  pub ends : EndsPiece piece.place script (record { end = piece.place + length piece.text; closed = piece.closed })
+  pub ends : EndsPiece piece.place script
+      (record { end = piece.place + length piece.text; closed = piece.closed })
   pub last : piece.closed ≡ false → behind ≡ []
 
 -- whether a word is one of these, in capitals or not
@@ -43,12 +44,15 @@ ordering_words = codes "SESSION" ∷ codes "SCHEDULE" ∷ []
 abbrev pub directive_words : List (List ℕ)
 directive_words = codes "QUANTUM" ∷ codes "TURNS" ∷ codes "LOAD" ∷ ordering_words
 
--- By the first token of a piece: SESSION and SCHEDULE, unquoted, are what they say wherever they may stand.
+-- By the first token of a piece: SESSION and SCHEDULE, unquoted, are what they say wherever they
+-- may stand.
 abbrev pub kind_at : Stage → Piece → FirstToken → Kind
 kind_at stage piece Nothing = Blank
-kind_at SetUp piece (Word start end) = if is_one_of directive_words (slice_range piece.text start end) then Directive else Setup
+kind_at SetUp piece (Word start end) =
+    if is_one_of directive_words (slice_range piece.text start end) then Directive else Setup
 kind_at SetUp piece (Other start) = Setup
-kind_at InSession piece (Word start end) = if is_one_of ordering_words (slice_range piece.text start end) then Directive else Statement
+kind_at InSession piece (Word start end) =
+    if is_one_of ordering_words (slice_range piece.text start end) then Directive else Statement
 kind_at InSession piece (Other start) = Statement
 kind_at Scheduled piece (Word start end) = Late (piece.place + start)
 kind_at Scheduled piece (Other start) = Late (piece.place + start)
@@ -66,7 +70,8 @@ front_space (byte ∷ bytes) = if is_space byte then front_space bytes + 1 else 
 -- the text without the white space at its end
 abbrev pub trimmed_end : List ℕ → List ℕ
 trimmed_end [] = []
-trimmed_end (byte ∷ bytes) = if list_any (λ other. if is_space other then false else true) (byte ∷ bytes) then byte ∷ trimmed_end bytes else []
+trimmed_end (byte ∷ bytes) = if list_any (λ other. if is_space other then false else true)
+    (byte ∷ bytes) then byte ∷ trimmed_end bytes else []
 
 -- a statement's source text: from the first to the last byte of its piece that isn't white space
 abbrev pub source_of : List ℕ → List ℕ

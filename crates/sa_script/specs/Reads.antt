@@ -1,4 +1,5 @@
--- How a piece of a script is read: its tokens at their places in the script, their tree, and the faults of both.
+-- How a piece of a script is read: its tokens at their places in the script, their tree, and the
+-- faults of both.
 use Rattle.std.specs.Prelude.{◌≡◌, ℕ, ◌+◌, ◌⊎◌, List, Option, Some, None, Ok, Err}
 use Rattle.sa_lexer.specs.declared.fault.LexKind.{LexKind}
 use Rattle.sa_lexer.specs.declared.fault.LexKind.TheVariants as lex

@@ -5,7 +5,15 @@ use Rattle.sa_script.specs.declared.said.Stage.TheVariants.{SetUp}
 
 -- before any piece
 abbrev pub nothing_said : Said
-nothing_said = record { stage = SetUp; tables = []; quantum = 64; turns = 1000000; sessions = []; schedule = [] }
+nothing_said =
+    record {
+      stage = SetUp;
+      tables = [];
+      quantum = 64;
+      turns = 1000000;
+      sessions = [];
+      schedule = [];
+    }
 
 -- one more statement of the last session
 abbrev pub with_statement : List (List (List ℕ)) → List ℕ → List (List (List ℕ))

@@ -36,34 +36,47 @@ CantSetUp tables tree fault = ⊥
 -- whether one more statement may be put to a session, and whether it is short enough
 abbrev pub statement_fault : List (List (List ℕ)) → Piece → Option Fault
 statement_fault sessions piece =
-    if not (nat_lt (length (last_session sessions)) 256) then Some (fault_at script.TooManyStatements (piece.place + front_space piece.text))
-    else (if nat_lt 65536 (length (source_of piece.text)) then Some (fault_at script.StatementTooLong (piece.place + front_space piece.text)) else None)
+    if not (nat_lt (length (last_session sessions)) 256)
+    then Some (fault_at script.TooManyStatements (piece.place + front_space piece.text))
+    else (if nat_lt 65536 (length (source_of piece.text))
+    then Some (fault_at script.StatementTooLong (piece.place + front_space piece.text))
+    else None)
 
 -- A piece of this kind says this; the next one begins so many bytes behind its `;`.
 abbrev pub SaysAs : Kind → Said → Piece → List ℕ → Said → (skipped : ℕ) → Type 0
 SaysAs Blank said piece behind next skipped = (next ≡ said) × (skipped ≡ 0)
 SaysAs Directive said piece behind next skipped =
-    (tree : tree.Directive) × ReadsAs IsDirective piece tree × Directs said piece tree behind next skipped
+    (tree : tree.Directive) × ReadsAs IsDirective piece tree
+    × Directs said piece tree behind next skipped
 SaysAs Setup said piece behind next skipped =
-    (tree : statement.Statement) × (after : List Table) × ReadsAs IsSetup piece tree × SetsUp said.tables tree after
+    (tree : statement.Statement) × (after : List Table) × ReadsAs IsSetup piece tree
+    × SetsUp said.tables tree after
     × (next ≡ record said { tables = after }) × (skipped ≡ 0)
 SaysAs Statement said piece behind next skipped =
     (statement_fault said.sessions piece ≡ None)
-    × (next ≡ record said { sessions = with_statement said.sessions (source_of piece.text) }) × (skipped ≡ 0)
+    × (next ≡ record said { sessions = with_statement said.sessions (source_of piece.text) })
+    × (skipped ≡ 0)
 SaysAs (Late place) said piece behind next skipped = ⊥
 
--- A piece of this kind has this fault first: of its limits, of the lexer, of the grammar, or of what it says.
+-- A piece of this kind has this fault first: of its limits, of the lexer, of the grammar, or of
+-- what it says.
 abbrev pub FailsAs : Kind → Said → Piece → List ℕ → Fault → Type 0
 FailsAs Blank said piece behind fault = ⊥
 FailsAs Directive said piece behind fault =
-    CantRead IsDirective piece fault ⊎ ((tree : tree.Directive) × ReadsAs IsDirective piece tree × CantDirect said piece tree behind fault)
+    CantRead IsDirective piece fault
+    ⊎ ((tree : tree.Directive) × ReadsAs IsDirective piece tree
+    × CantDirect said piece tree behind fault)
 FailsAs Setup said piece behind fault =
-    CantRead IsSetup piece fault ⊎ ((tree : statement.Statement) × ReadsAs IsSetup piece tree × CantSetUp said.tables tree fault)
+    CantRead IsSetup piece fault
+    ⊎ ((tree : statement.Statement) × ReadsAs IsSetup piece tree
+    × CantSetUp said.tables tree fault)
 FailsAs Statement said piece behind fault = statement_fault said.sessions piece ≡ Some fault
 FailsAs (Late place) said piece behind fault = fault ≡ fault_at script.AfterSchedule place
 
--- After what was said, a piece stands from this place on, and says this; what follows it stands from another place on.
-pub record Says (text : List ℕ) (said : Said) (from : ℕ) (piece : Piece) (next : Said) (to : ℕ) : Type 0 where
+-- After what was said, a piece stands from this place on, and says this; what follows it stands
+-- from another place on.
+pub record Says (text : List ℕ) (said : Said) (from : ℕ) (piece : Piece) (next : Said)
+    (to : ℕ) : Type 0 where
   pub place : piece.place ≡ from
   pub behind : List ℕ
   pub is : IsPiece text piece behind
@@ -98,4 +111,5 @@ FailsAt text said from fault = IsLeftOpen text from fault ⊎ Fails text said fr
 abbrev pub LeadTo : List ℕ → Said → ℕ → List Piece → Said → ℕ → Type 0
 LeadTo text said from [] last to = (last ≡ said) × (to ≡ from)
 LeadTo text said from (piece ∷ pieces) last to =
-    (next : Said) × (at : ℕ) × (piece.closed ≡ true) × Says text said from piece next at × LeadTo text next at pieces last to
+    (next : Said) × (at : ℕ) × (piece.closed ≡ true) × Says text said from piece next at
+    × LeadTo text next at pieces last to

@@ -17,7 +17,14 @@ most_bytes = 16777216
 
 -- the script that was said
 abbrev pub script_said : Said → Script
-script_said said = record { tables = said.tables; sessions = said.sessions; quantum = said.quantum; turns = said.turns; schedule = said.schedule }
+script_said said =
+    record {
+      tables = said.tables;
+      sessions = said.sessions;
+      quantum = said.quantum;
+      turns = said.turns;
+      schedule = said.schedule;
+    }
 
 -- A text is this script: its pieces say it, the last of which no `;` ends.
 pub record IsScript (text : List ℕ) (script : Script) : Type 0 where
@@ -47,7 +54,8 @@ pub record IsNotUtf8 (text : List ℕ) (fault : Fault) : Type 0 where
   pub valid : IsValidUpTo text place
   pub fault_is : fault ≡ fault_at script.NotUtf8 place
 
--- A text of the right size in UTF-8 has this fault: its first pieces say something, and the next one fails.
+-- A text of the right size in UTF-8 has this fault: its first pieces say something, and the next
+-- one fails.
 pub record HasFaultyPiece (text : List ℕ) (fault : Fault) : Type 0 where
   pub size : length text ≤ most_bytes
   pub utf8 : IsUtf8 text
@@ -64,5 +72,6 @@ IsFault text fault = IsTooLong text fault ⊎ (IsNotUtf8 text fault ⊎ HasFault
 -- The answer to a text: the script that it is, or its first fault, unless memory ran out.
 abbrev pub IsScriptOf : List ℕ → Result Script ScriptFault → Type 0
 IsScriptOf text (Ok script) = IsScript text script
-IsScriptOf text (Err (Bad kind place line)) = IsFault text (record { kind = kind; place = place; line = line })
+IsScriptOf text (Err (Bad kind place line)) =
+    IsFault text (record { kind = kind; place = place; line = line })
 IsScriptOf text (Err OutOfMemory) = ⊤

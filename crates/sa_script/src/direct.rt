@@ -37,7 +37,8 @@ pub(crate) fn direct(
     requires few { length said.old.sessions ≤ 16 }
     ensures directs { let behind = drop (place_behind piece.now) script.now in
         IfOk result (Directs said.old piece.now tree behind said.new) }
-    ensures cut { IfOk result (λ skipped. IsCharBoundary script.now (place_behind piece.now + skipped)) }
+    ensures cut { IfOk result
+        (λ skipped. IsCharBoundary script.now (place_behind piece.now + skipped)) }
     ensures fault { let behind = drop (place_behind piece.now) script.now in
         IfErr result (Tells (CantDirect said.old piece.now tree behind)) }
 {
@@ -79,7 +80,8 @@ fn number_within(tree: &NumberTree, most: u64) -> Result<u64, ScriptFault>
 fn next_session(sessions: usize, tree: &NumberTree) -> Result<(), ScriptFault>
     requires { sessions ≤ 16 }
     ensures next { OnOk result (spec.session_fault sessions tree.now ≡ None) }
-    ensures fault { IfErr result (Tells (λ fault. (kind : Kind) × (spec.session_fault sessions tree.now ≡ Some kind)
+    ensures fault { IfErr result
+        (Tells (λ fault. (kind : Kind) × (spec.session_fault sessions tree.now ≡ Some kind)
         × (fault ≡ fault_at kind tree.now.place))) }
 {
     if tree.number != sessions as u128 + 1 {
@@ -111,7 +113,8 @@ fn session_number(sessions: usize, before: usize, tree: &NumberTree) -> Result<u
     requires { sessions ≤ 16 }
     ensures good { OnOk result (spec.schedule_fault sessions before tree.now ≡ None) }
     ensures number { IfOk result (λ number. number ≡ tree.now.number) }
-    ensures fault { IfErr result (Tells (λ fault. (kind : Kind) × (spec.schedule_fault sessions before tree.now ≡ Some kind)
+    ensures fault { IfErr result
+        (Tells (λ fault. (kind : Kind) × (spec.schedule_fault sessions before tree.now ≡ Some kind)
         × (fault ≡ fault_at kind tree.now.place))) }
 {
     let number = tree.number;

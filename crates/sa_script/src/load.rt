@@ -39,7 +39,8 @@ pub(crate) fn load(
     requires within { place_behind piece.now ≤ length script.now }
     ensures loads { let behind = drop (place_behind piece.now) script.now in
         IfOk result (Loads tables.old piece.now name.now count.now behind tables.new) }
-    ensures cut { IfOk result (λ skipped. IsCharBoundary script.now (place_behind piece.now + skipped)) }
+    ensures cut { IfOk result
+        (λ skipped. IsCharBoundary script.now (place_behind piece.now + skipped)) }
     ensures fault { let behind = drop (place_behind piece.now) script.now in
         IfErr result (Tells (CantLoad tables.old piece.now name.now count.now behind)) }
 {

@@ -60,7 +60,8 @@ impl<'a> Piece<'a> {
 pub(crate) fn piece_at(script: &str, place: usize) -> Result<Piece<'_>, ScriptFault>
     requires { IsCharBoundary script.now place }
     ensures place { IfOk result (λ piece. piece.place ≡ place) }
-    ensures is { IfOk result (λ piece. IsPiece script.now piece (drop (place_behind piece) script.now)) }
+    ensures is { IfOk result
+        (λ piece. IsPiece script.now piece (drop (place_behind piece) script.now)) }
     ensures within { IfOk result (λ piece. place_behind piece ≤ length script.now) }
     ensures cut { IfOk result (λ piece. IsCharBoundary script.now (place_behind piece)) }
     ensures fault { IfErr result (Tells (IsLeftOpen script.now place)) }

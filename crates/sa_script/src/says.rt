@@ -32,7 +32,8 @@ pub(crate) fn take_piece(
     requires few { length said.old.sessions ≤ 16 }
     ensures says { let behind = drop (place_behind piece.now) script.now in
         IfOk result (SaysThis said.old piece.now behind said.new) }
-    ensures cut { IfOk result (λ skipped. IsCharBoundary script.now (place_behind piece.now + skipped)) }
+    ensures cut { IfOk result
+        (λ skipped. IsCharBoundary script.now (place_behind piece.now + skipped)) }
     ensures few { OnOk result (length said.new.sessions ≤ 16) }
     ensures fault { let behind = drop (place_behind piece.now) script.now in
         IfErr result (Tells (FailsWith said.old piece.now behind)) }

@@ -28,7 +28,8 @@ pub(crate) fn put_statement(
     requires { piece.now.place + length piece.now.text < 2 ^ 64 }
     ensures faultless { OnOk result (statement_fault sessions.old piece.now ≡ None) }
     ensures ok { OnOk result (sessions.new ≡ with_source sessions.old (spec.source_of piece.now.text)) }
-    ensures fault { IfErr result (Tells (λ fault. statement_fault sessions.old piece.now ≡ Some fault)) }
+    ensures fault { IfErr result
+        (Tells (λ fault. statement_fault sessions.old piece.now ≡ Some fault)) }
 {
     let place = piece.place() + front_space(piece.text());
     if last_len(sessions) >= MOST_STATEMENTS {

@@ -1,7 +1,8 @@
 -- The fifth step of simplification: what literals decide is decided.
 --
--- A comparison of two literals becomes its truth. Any other comparison with NULL becomes UNKNOWN, but `x <=> NULL` becomes
--- `x IS NULL`, and NOT over it `x IS NOT NULL`. IS of a literal becomes its truth. NOT of a truth becomes its truth.
+-- A comparison of two literals becomes its truth. Any other comparison with NULL becomes UNKNOWN,
+-- but `x <=> NULL` becomes `x IS NULL`, and NOT over it `x IS NOT NULL`. IS of a literal becomes
+-- its truth. NOT of a truth becomes its truth.
 use Rattle.std.specs.Prelude.{not, Option, Some, None}
 use Rattle.sa_value.specs.declared.truth.CompareOp.{CompareOp}
 use Rattle.sa_value.specs.declared.truth.CompareOp.TheVariants.{NullEq}
@@ -46,7 +47,8 @@ not_decided cond = Not cond
 
 -- One node, with what became of its members in their place.
 abbrev pub node_decided : Cond-F Cond → Cond
-node_decided (Cond-F.Compare op left right) = comparison_decided op (literal_of left) (literal_of right) left right
+node_decided (Cond-F.Compare op left right) =
+    comparison_decided op (literal_of left) (literal_of right) left right
 node_decided (Cond-F.IsNull x) = null_decided (literal_of x) x
 node_decided (Cond-F.NotNull x) = not_null_decided (literal_of x) x
 node_decided (Cond-F.Not x) = not_decided x

@@ -1,7 +1,7 @@
 -- The first step of simplification: BETWEEN and IN are written out as comparisons.
 --
--- `x BETWEEN a AND b` is `x >= a AND x <= b`. `x IN (a, b, ..)` is the OR of `x = a`, `x = b` and so on, and with one member
--- that equality alone.
+-- `x BETWEEN a AND b` is `x >= a AND x <= b`. `x IN (a, b, ..)` is the OR of `x = a`, `x = b` and
+-- so on, and with one member that equality alone.
 use Rattle.std.specs.Prelude.{List, [], ◌∷◌, map}
 use Rattle.sa_value.specs.declared.truth.CompareOp.TheVariants.{Eq, Le, Ge}
 use Rattle.sa_cond.specs.declared.cond.Cond.{Cond, Cond-F, fold-Cond}

@@ -1,8 +1,10 @@
--- The sixth step of simplification: AND within AND and OR within OR are flattened, and known truths vanish from both.
+-- The sixth step of simplification: AND within AND and OR within OR are flattened, and known truths
+-- vanish from both.
 --
--- From the inside out: the members of an AND within an AND are members of the outer one, and likewise for OR. TRUE is dropped
--- from AND, FALSE from OR. An AND with FALSE is FALSE, an OR with TRUE is TRUE. Without a member left an AND is TRUE and an OR
--- FALSE; one member that is left stands alone. UNKNOWN stays.
+-- From the inside out: the members of an AND within an AND are members of the outer one, and
+-- likewise for OR. TRUE is dropped from AND, FALSE from OR. An AND with FALSE is FALSE, an OR with
+-- TRUE is TRUE. Without a member left an AND is TRUE and an OR FALSE; one member that is left
+-- stands alone. UNKNOWN stays.
 use Rattle.std.specs.Prelude.{Bool, true, false, not, List, [], ◌∷◌, filter, if◌then◌else◌}
 use Rattle.std.specs.List.{flat_map, list_any}
 use Rattle.sa_value.specs.declared.truth.Truth.TheVariants.{False, True}
@@ -53,12 +55,14 @@ or_or_alone (first ∷ second ∷ rest) = Or (first ∷ second ∷ rest)
 -- the AND of members; an AND among them has neither TRUE nor FALSE for a member
 abbrev pub and_of : List Cond → Cond
 and_of members =
-    if list_any is_false members then Known False else and_or_alone (flat_map conjuncts_of (filter (λ member. not (is_true member)) members))
+    if list_any is_false members then Known False
+    else and_or_alone (flat_map conjuncts_of (filter (λ member. not (is_true member)) members))
 
 -- the OR of members; an OR among them has neither TRUE nor FALSE for a member
 abbrev pub or_of : List Cond → Cond
 or_of members =
-    if list_any is_true members then Known True else or_or_alone (flat_map disjuncts_of (filter (λ member. not (is_false member)) members))
+    if list_any is_true members then Known True
+    else or_or_alone (flat_map disjuncts_of (filter (λ member. not (is_false member)) members))
 
 -- One node, with what became of its members in their place.
 abbrev pub node_flattened : Cond-F Cond → Cond

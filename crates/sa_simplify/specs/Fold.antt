@@ -1,7 +1,8 @@
 -- The third step of simplification: arithmetic on literals is done beforehand.
 --
--- From the inside out, an arithmetic expression with a literal NULL becomes NULL, and one of literals that aren't NULL becomes
--- the literal of its value. Numbers are without bounds here; where the condition is well-typed each literal is a BIGINT.
+-- From the inside out, an arithmetic expression with a literal NULL becomes NULL, and one of
+-- literals that aren't NULL becomes the literal of its value. Numbers are without bounds here;
+-- where the condition is well-typed each literal is a BIGINT.
 use Rattle.std.specs.Prelude.{ℤ, ◌+ℤ◌, ◌-ℤ◌, ◌*ℤ◌, neg_ℤ, Option, Some, None, option_map}
 use Rattle.sa_value.specs.declared.value.Value.{Value}
 use Rattle.sa_value.specs.declared.value.Value.TheVariants.{Null}
@@ -34,15 +35,19 @@ node_folded (Expr-F.Column table column) = Column table column
 node_folded (Expr-F.Slot slot) = Slot slot
 node_folded (Expr-F.Literal value) = Literal value
 node_folded (Expr-F.Negate x) = literal_or (value_of_one neg_ℤ (literal_of x)) (Negate x)
-node_folded (Expr-F.Add x y) = literal_or (value_of_two (λ x y. x +ℤ y) (literal_of x) (literal_of y)) (Add x y)
-node_folded (Expr-F.Subtract x y) = literal_or (value_of_two (λ x y. x -ℤ y) (literal_of x) (literal_of y)) (Subtract x y)
-node_folded (Expr-F.Multiply x y) = literal_or (value_of_two (λ x y. x *ℤ y) (literal_of x) (literal_of y)) (Multiply x y)
+node_folded (Expr-F.Add x y) =
+    literal_or (value_of_two (λ x y. x +ℤ y) (literal_of x) (literal_of y)) (Add x y)
+node_folded (Expr-F.Subtract x y) =
+    literal_or (value_of_two (λ x y. x -ℤ y) (literal_of x) (literal_of y)) (Subtract x y)
+node_folded (Expr-F.Multiply x y) =
+    literal_or (value_of_two (λ x y. x *ℤ y) (literal_of x) (literal_of y)) (Multiply x y)
 
 -- a whole expression
 unfoldable pub folded_expr : Expr → Expr
 folded_expr = fold-Expr Expr node_folded
 
--- One node of a condition, with what became of its members in their place. BETWEEN and IN are gone by now.
+-- One node of a condition, with what became of its members in their place. BETWEEN and IN are gone
+-- by now.
 abbrev pub node_folded_within : Cond-F Cond → Cond
 node_folded_within (Cond-F.Compare op left right) = Compare op (folded_expr left) (folded_expr right)
 node_folded_within (Cond-F.IsNull x) = IsNull (folded_expr x)

@@ -1,8 +1,10 @@
--- The seventh step of simplification: equalities with literals are handed on over equalities of columns.
+-- The seventh step of simplification: equalities with literals are handed on over equalities of
+-- columns.
 --
--- Let the conjuncts be the members of the outermost AND, or the one condition. While there are two of them, `x = y` of two
--- different columns and an equality of one of these two with a literal c that isn't NULL, such that the other column's equality
--- with c isn't a conjunct, that equality is put at the end: for the first such `x = y`, and then the first such equality.
+-- Let the conjuncts be the members of the outermost AND, or the one condition. While there are two
+-- of them, `x = y` of two different columns and an equality of one of these two with a literal c
+-- that isn't NULL, such that the other column's equality with c isn't a conjunct, that equality is
+-- put at the end: for the first such `x = y`, and then the first such equality.
 use Rattle.std.specs.Prelude.{◌≡◌, ℕ, zero, suc, ◌*◌, ◌==◌, Bool, false, ◌&&◌, Option, Some, None, List, [], ◌∷◌, ◌++◌, length, if◌then◌else◌}
 use Rattle.std.specs.List.{list_any}
 use Rattle.std.specs.Option.{option_map_or}
@@ -46,7 +48,8 @@ fix_of x Null = None
 fix_of x literal = Some (record { place = x; literal = literal })
 
 abbrev pub fix_between : Expr → Expr → Option Fix
-fix_between (Column table column) (Literal value) = fix_of (record { table = table; column = column }) value
+fix_between (Column table column) (Literal value) =
+    fix_of (record { table = table; column = column }) value
 fix_between left right = None
 
 -- the column that a condition says equals a literal other than NULL
@@ -60,14 +63,16 @@ fix_condition fix = Compare Eq (Column fix.place.table fix.place.column) (Litera
 -- whether a condition is this equality
 abbrev pub is_fix : Fix → Option Fix → Bool
 is_fix fix None = false
-is_fix fix (Some other) = is_same_place fix.place other.place && holds_at Eq (order_of fix.literal other.literal)
+is_fix fix (Some other) =
+    is_same_place fix.place other.place && holds_at Eq (order_of fix.literal other.literal)
 
 abbrev pub is_there : List Cond → Fix → Bool
 is_there conjuncts fix = list_any (λ conjunct. is_fix fix (fix_in conjunct)) conjuncts
 
 -- the other one of the two columns that are equal
 abbrev pub other_place : Join → Place → Option Place
-other_place join x = if is_same_place x join.left then Some join.right else (if is_same_place x join.right then Some join.left else None)
+other_place join x = if is_same_place x join.left then Some join.right
+    else (if is_same_place x join.right then Some join.left else None)
 
 abbrev pub unless_there : List Cond → Fix → Option Fix
 unless_there conjuncts fix = if is_there conjuncts fix then None else Some fix
@@ -80,7 +85,8 @@ handed_to conjuncts (Some x) literal = unless_there conjuncts (record { place = 
 abbrev pub handed_by : List Cond → Option Join → Option Fix → Option Fix
 handed_by conjuncts None fix = None
 handed_by conjuncts (Some join) None = None
-handed_by conjuncts (Some join) (Some fix) = handed_to conjuncts (other_place join fix.place) fix.literal
+handed_by conjuncts (Some join) (Some fix) =
+    handed_to conjuncts (other_place join fix.place) fix.literal
 
 -- the first thing that a list's members give
 abbrev pub or_else : {A : Type 0} → Option A → Option A → Option A
@@ -94,7 +100,9 @@ first_given f (x ∷ xs) = or_else (f x) (first_given f xs)
 -- what the first conjunct that hands on something hands on first
 unfoldable pub next_handed : List Cond → Option Fix
 next_handed conjuncts =
-    first_given (λ first. first_given (λ second. handed_by conjuncts (join_in first) (fix_in second)) conjuncts) conjuncts
+    first_given
+    (λ first. first_given
+    (λ second. handed_by conjuncts (join_in first) (fix_in second)) conjuncts) conjuncts
 
 -- Equalities are put at the end, one after another, until there is none.
 pub data HandsOn : List Cond → List Cond → Type 0 where
@@ -106,7 +114,8 @@ pub data HandsOn : List Cond → List Cond → Type 0 where
 abbrev pub handed_at_most : ℕ → List Cond → List Cond
 handed_at_most zero conjuncts = conjuncts
 handed_at_most (suc n) conjuncts =
-    option_map_or (λ fix. handed_at_most n (conjuncts ++ fix_condition fix ∷ [])) (next_handed conjuncts) conjuncts
+    option_map_or (λ fix. handed_at_most n (conjuncts ++ fix_condition fix ∷ []))
+    (next_handed conjuncts) conjuncts
 
 -- Each two conjuncts can hand on two equalities, and what was handed on brings no new literal.
 unfoldable pub handed_all : List Cond → List Cond

@@ -1,7 +1,8 @@
 -- The second step of simplification: NOT is pushed inward.
 --
--- NOT over AND is the OR of the members under NOT, and NOT over OR their AND. Under NOT `=` and `<>`, `<` and `>=`, `>` and `<=`
--- change into each other, and so do IS NULL and IS NOT NULL. Two NOTs vanish. NOT over `<=>` stays, and so does NOT over a truth.
+-- NOT over AND is the OR of the members under NOT, and NOT over OR their AND. Under NOT `=` and
+-- `<>`, `<` and `>=`, `>` and `<=` change into each other, and so do IS NULL and IS NOT NULL. Two
+-- NOTs vanish. NOT over `<=>` stays, and so does NOT over a truth.
 use Rattle.std.specs.Prelude.{map}
 use Rattle.sa_value.specs.declared.truth.CompareOp.{CompareOp}
 use Rattle.sa_value.specs.declared.truth.CompareOp.TheVariants.{Eq, NullEq, Ne, Lt, Le, Gt, Ge}

@@ -17,7 +17,8 @@ use Rattle.sa_simplify.specs.Propagate.{propagated}
 unfoldable pub simple : Cond → Cond
 simple cond = propagated (flattened (decided (turned (folded (pushed (expanded cond) Plain)))))
 
--- With some kinds of its columns and slots a condition is well-typed, and each arithmetic expression in it has a static interval.
+-- With some kinds of its columns and slots a condition is well-typed, and each arithmetic
+-- expression in it has a static interval.
 pub record IsWellTyped (cond : Cond) : Type 0 where
   pub kinds : CellKinds
   pub typed : is_well_typed kinds cond ≡ true

@@ -1,4 +1,5 @@
--- The fourth step of simplification: a comparison with a literal on its left and none on its right is turned round.
+-- The fourth step of simplification: a comparison with a literal on its left and none on its right
+-- is turned round.
 use Rattle.std.specs.Prelude.{not, ◌&&◌, if◌then◌else◌}
 use Rattle.sa_value.specs.declared.truth.CompareOp.{CompareOp}
 use Rattle.sa_value.specs.declared.truth.CompareOp.TheVariants.{Eq, NullEq, Ne, Lt, Le, Gt, Ge}
@@ -20,7 +21,8 @@ mirrored Ge = Le
 -- a comparison with a literal on its left alone is turned round
 abbrev pub comparison_turned : CompareOp → Expr → Expr → Cond
 comparison_turned op left right =
-    if is_literal left && not (is_literal right) then Compare (mirrored op) right left else Compare op left right
+    if is_literal left && not (is_literal right) then Compare (mirrored op) right left
+    else Compare op left right
 
 -- One node, with what became of its members in their place.
 abbrev pub node_turned : Cond-F Cond → Cond

@@ -67,7 +67,8 @@ fn first_handed(conjuncts: &[Cond]) -> Option<(Place, &Value)>
 /// The first that is handed on with this conjunct as the equality of two columns.
 fn handed_from<'a>(conjuncts: &'a [Cond], first: &Cond) -> Option<(Place, &'a Value)>
     ensures { option_map fix_at result
-        ≡ first_given (λ second. handed_by conjuncts.now (join_in first.now) (fix_in second)) conjuncts.now }
+        ≡ first_given
+        (λ second. handed_by conjuncts.now (join_in first.now) (fix_in second)) conjuncts.now }
 {
     match join(first) {
         Some(join) => handed_over(conjuncts, join),
@@ -78,7 +79,9 @@ fn handed_from<'a>(conjuncts: &'a [Cond], first: &Cond) -> Option<(Place, &'a Va
 /// The first that is handed on over this equality of two columns.
 fn handed_over(conjuncts: &[Cond], join: (Place, Place)) -> Option<(Place, &Value)>
     ensures { option_map fix_at result
-        ≡ first_given (λ second. handed_by conjuncts.now (Some (join_at join)) (fix_in second)) conjuncts.now }
+        ≡ first_given
+        (λ second. handed_by conjuncts.now (Some (join_at join)) (fix_in second))
+        conjuncts.now }
 {
     for second in conjuncts {
         if let Some((place, literal)) = fix(second) {

@@ -16,7 +16,8 @@ impl Model for FailingCalls {
 
     ghost Value = { Calls };
 
-    ghost view = { λ calls. record { failing = calls.failing.items; made = calls.made; faults = calls.faults } };
+    ghost view = { λ calls.
+        record { failing = calls.failing.items; made = calls.made; faults = calls.faults } };
 }
 
 impl FailingCalls {

@@ -62,12 +62,19 @@ impl Sink for MemorySink {
     fn write(&mut self, piece: &[u8]) -> Result<usize, SinkFault>
         ensures counts { self.old.calls.faults ≤ self.new.calls.faults }
         ensures failing { IsErrOf result SinkFault.Failed ↔ FailsNext self.old.calls }
-        ensures failed { IsErrOf result SinkFault.Failed → self.new ≡ record self.old { calls = after_fault self.old.calls } }
-        ensures out_of_memory { IsErrOf result SinkFault.OutOfMemory → self.new ≡ record self.old { calls = after_call self.old.calls } }
+        ensures failed { IsErrOf result SinkFault.Failed
+            → self.new ≡ record self.old { calls = after_fault self.old.calls } }
+        ensures out_of_memory { IsErrOf result SinkFault.OutOfMemory
+            → self.new ≡ record self.old { calls = after_call self.old.calls } }
 
         ensures count { IfOk result (λ n. n ≡ min (length piece.now) self.old.piece) }
         ensures moves { IfOk result (λ n. 0 < length piece.now → 0 < n) }
-        ensures ok { IfOk result (λ n. self.new ≡ record self.old { taken = self.old.taken ++ take n piece.now; calls = after_call self.old.calls }) }
+        ensures ok { IfOk result
+            (λ n. self.new
+            ≡ record self.old {
+              taken = self.old.taken ++ take n piece.now;
+              calls = after_call self.old.calls;
+            }) }
     {
         if self.calls.next_fails() {
             return Err(SinkFault::Failed);

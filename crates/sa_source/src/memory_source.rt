@@ -33,7 +33,8 @@ impl MemorySource {
     /// Exactly the calls whose numbers stand in `failing`, counted from 1, fail.
     pub fn new(bytes: Vec<u8>, piece: usize, failing: Vec<u64>) -> MemorySource
         requires { 0 < piece }
-        ensures { result ≡ record { left = bytes.items; piece = piece; calls = no_calls failing.items } }
+        ensures { result
+            ≡ record { left = bytes.items; piece = piece; calls = no_calls failing.items } }
     {
         MemorySource {
             bytes: PlainSource::new(bytes),
@@ -57,9 +58,12 @@ impl Source for MemorySource {
         ensures err { OnErr result (self.new ≡ record self.old { calls = after_fault self.old.calls }) }
         ensures untouched { OnErr result (buffer.new ≡ buffer.old) }
 
-        ensures count { IfOk result (λ n. n ≡ min (min (length buffer.old) self.old.piece) (length self.old.left)) }
+        ensures count { IfOk result
+            (λ n. n ≡ min (min (length buffer.old) self.old.piece) (length self.old.left)) }
         ensures end { IfOk result (λ n. n ≡ 0 → 0 < length buffer.old → self.old.left ≡ []) }
-        ensures ok { IfOk result (λ n. self.new ≡ record self.old { left = drop n self.old.left; calls = after_call self.old.calls }) }
+        ensures ok { IfOk result
+            (λ n. self.new
+            ≡ record self.old { left = drop n self.old.left; calls = after_call self.old.calls }) }
         ensures filled { IfOk result (λ n. buffer.new ≡ take n self.old.left ++ drop n buffer.old) }
     {
         if self.calls.next_fails() {

@@ -30,6 +30,7 @@ pub trait Sink {
         ensures fits { IfOk result (λ n. n ≤ length piece.now) }
         ensures moves { IfOk result (λ n. 0 < length piece.now → 0 < n) }
         ensures took { IfOk result (λ n. Appends (taken self.old) (taken self.new) (take n piece.now)) }
-        ensures failed { IsErrOf result SinkFault.Failed → HasRisen (faults self.old) (faults self.new) }
+        ensures failed { IsErrOf result SinkFault.Failed
+            → HasRisen (faults self.old) (faults self.new) }
         ensures kept { OnErr result (taken self.new ≡ taken self.old) };
 }

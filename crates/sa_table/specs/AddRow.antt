@@ -31,7 +31,8 @@ greatest_number (kinds.VarChar characters) = pos 0
 abbrev pub number_faults : ℕ → ColumnKind → ℤ → List RowFault
 number_faults column (kinds.VarChar characters) number = TypeMismatch column ∷ []
 number_faults column kind number =
-    told (not (int_le (least_number kind) number && int_le number (greatest_number kind))) (OutOfRange column)
+    told (not (int_le (least_number kind) number && int_le number (greatest_number kind)))
+    (OutOfRange column)
 
 -- The faults of a text. It has at most 255 bytes, and at most as many characters as its column says.
 abbrev pub text_faults : ℕ → ColumnKind → List ℕ → List RowFault
@@ -49,7 +50,8 @@ value_faults column def (Text text) = text_faults column def.kind text
 -- the faults of a row's values, column by column
 abbrev pub column_faults : List ColumnDef → List Value → List RowFault
 column_faults columns row =
-    flat_map (λ numbered. value_faults numbered.0 numbered.1.0 numbered.1.1) (enumerate_from 0 (zip columns row))
+    flat_map (λ numbered. value_faults numbered.0 numbered.1.0 numbered.1.1)
+    (enumerate_from 0 (zip columns row))
 
 abbrev pub is_null : Value → Bool
 is_null Null = true
@@ -63,7 +65,8 @@ same_tuple = pointwise (λ a b. is_eq (order_of a b))
 
 -- whether a row stands in the way of another in a unique key: their tuples are equal and without NULL
 abbrev pub collides : KeyDef → List Value → List Value → Bool
-collides key row other = not (list_any is_null (key_tuple key.parts row)) && same_tuple (key_tuple key.parts row) (key_tuple key.parts other)
+collides key row other = not (list_any is_null (key_tuple key.parts row))
+    && same_tuple (key_tuple key.parts row) (key_tuple key.parts other)
 
 abbrev pub told_row : Option ℕ → List RowFault
 told_row None = []
@@ -71,7 +74,8 @@ told_row (Some row) = DuplicateKey row ∷ []
 
 -- the faults of a row in the unique keys, key by key: each names the first row that stands in its way
 abbrev pub key_faults : List KeyDef → List (List Value) → List Value → List RowFault
-key_faults keys rows row = flat_map (λ key. told_row (position (collides key row) rows)) (filter is_unique keys)
+key_faults keys rows row =
+    flat_map (λ key. told_row (position (collides key row) rows)) (filter is_unique keys)
 
 -- the faults of a row, in their order
 abbrev pub row_faults : Table → List Value → List RowFault

@@ -30,7 +30,8 @@ column_at def column = slice_index_or def.columns column no_column
 -- A row has a value for each column, which stands rightly there.
 pub record IsRow (def : TableDef) (row : List Value) : Type 0 where
   pub wide : length row ≡ length def.columns
-  pub fits : (column : ℕ) → column < length def.columns → FitsColumn column (column_at def column) (value_in row column)
+  pub fits : (column : ℕ) → column < length def.columns
+      → FitsColumn column (column_at def column) (value_in row column)
 
 -- A key has few parts, which are columns.
 pub record IsKey (columns : List ColumnDef) (key : KeyDef) : Type 0 where
@@ -39,7 +40,8 @@ pub record IsKey (columns : List ColumnDef) (key : KeyDef) : Type 0 where
 
 -- No two rows have equal tuples without NULL in a unique key.
 abbrev pub IsDistinct : List (List Value) → KeyDef → Type 0
-IsDistinct rows key = is_unique key ≡ true → AllPairs (λ earlier later. collides key later earlier ≡ false) rows
+IsDistinct rows key =
+    is_unique key ≡ true → AllPairs (λ earlier later. collides key later earlier ≡ false) rows
 
 -- A table keeps its limits, its rows and its unique keys; the columns of its primary key are NOT NULL.
 pub record IsSoundTable (table : Table) : Type 0 where

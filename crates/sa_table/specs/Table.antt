@@ -22,7 +22,8 @@ is_primary_part keys column = list_any (λ key. key.primary && is_part column ke
 
 -- the columns of a primary key are NOT NULL, whatever was written at them
 abbrev pub raised_column : List KeyDef → ℕ × ColumnDef → ColumnDef
-raised_column keys numbered = record numbered.1 { not_null = numbered.1.not_null || is_primary_part keys numbered.0 }
+raised_column keys numbered =
+    record numbered.1 { not_null = numbered.1.not_null || is_primary_part keys numbered.0 }
 
 abbrev pub raised : TableDef → TableDef
 raised def = record def { columns = map (raised_column def.keys) (enumerate_from 0 def.columns) }

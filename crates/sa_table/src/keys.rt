@@ -51,7 +51,8 @@ pub(crate) fn key_fault(
     indexes: &[Index],
     row: &[Value],
 ) -> Option<RowFault>
-    requires searchable { All (λ key. is_unique key ≡ true → IsSearchable store.now key row.now) keys.now }
+    requires searchable { All
+        (λ key. is_unique key ≡ true → IsSearchable store.now key row.now) keys.now }
     requires indexed { AreIndexed (rows_in store.now) keys.now indexes.now }
     ensures { result ≡ first (key_faults keys.now (rows_in store.now) row.now) }
 {
@@ -118,7 +119,8 @@ fn push_digest(index: &mut Index, key: &KeyDef, row: &[Value], number: u32)
     requires few { number < 1000000 }
     requires parts { All (λ part. part < length row.now) key.now.parts }
     requires ranged { All IsRanged row.now }
-    ensures { is_unique key.now ≡ true → AddsDigest index.old index.new number (digest_of (key_tuple key.now.parts row.now)) }
+    ensures { is_unique key.now ≡ true
+        → AddsDigest index.old index.new number (digest_of (key_tuple key.now.parts row.now)) }
 {
     if is_unique(key) {
         index.push(number, digest_of(key.parts.as_slice(), row));

@@ -81,7 +81,8 @@ impl Store {
         requires few { self.old.count < 1000000 }
         requires ranged { All IsRanged row.items }
         requires room { TakesRow self.old row.items }
-        ensures rows { rows_in self.new ≡ rows_in self.old ++ held_row self.old.columns.items row.items ∷ [] }
+        ensures rows { rows_in self.new ≡ rows_in self.old
+            ++ held_row self.old.columns.items row.items ∷ [] }
         ensures filled { Fills self.new }
         ensures kinds { SameKinds self.old self.new }
         ensures wide { vec_len self.new.columns ≡ vec_len self.old.columns }

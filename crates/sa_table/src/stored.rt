@@ -122,7 +122,8 @@ impl StoredTable {
         ensures ok { OnOk result (self.new ≡ with_row self.old row) }
         ensures number { IfOk result (λ number. number ≡ length self.old.rows) }
         ensures faultless { OnOk result (row_faults self.old row ≡ []) }
-        ensures fault { IfErr result (λ f. f ≡ first_or RowFault.OutOfMemory (row_faults self.old row)) }
+        ensures fault { IfErr result
+            (λ f. f ≡ first_or RowFault.OutOfMemory (row_faults self.old row)) }
         ensures err { OnErr result (self.new ≡ self.old) }
         ensures sound { IsSoundTable self.new }
     {

@@ -50,7 +50,8 @@ impl Tables {
         ensures ok { OnOk result (self.new ≡ self.old ++ new_table def ∷ []) }
         ensures number { IfOk result (λ number. number ≡ length self.old) }
         ensures faultless { OnOk result (table_faults self.old def ≡ []) }
-        ensures fault { IfErr result (λ f. f ≡ first_or TableFault.OutOfMemory (table_faults self.old def)) }
+        ensures fault { IfErr result
+            (λ f. f ≡ first_or TableFault.OutOfMemory (table_faults self.old def)) }
         ensures err { OnErr result (self.new ≡ self.old) }
     {
         if let Some(fault) = table_fault(&self.tables, &def) {
@@ -66,10 +67,12 @@ impl Tables {
     /// Puts a row at the end of a table, and gives its number.
     pub fn add_row(&mut self, table: u32, row: Row) -> Result<u32, RowFault>
         requires there { table < length self.old }
-        ensures ok { OnOk result (self.new ≡ slice_set self.old table (with_row (table_at self.old table) row)) }
+        ensures ok { OnOk result
+            (self.new ≡ slice_set self.old table (with_row (table_at self.old table) row)) }
         ensures number { IfOk result (λ number. number ≡ row_count self.old table) }
         ensures faultless { OnOk result (row_faults (table_at self.old table) row ≡ []) }
-        ensures fault { IfErr result (λ f. f ≡ first_or RowFault.OutOfMemory (row_faults (table_at self.old table) row)) }
+        ensures fault { IfErr result
+            (λ f. f ≡ first_or RowFault.OutOfMemory (row_faults (table_at self.old table) row)) }
         ensures err { OnErr result (self.new ≡ self.old) }
     {
         self.tables[table as usize].add_row(self.alloc, row)

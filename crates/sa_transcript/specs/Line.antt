@@ -54,21 +54,33 @@ of_statement statement members = put (codes "statement") (count statement) membe
 -- the members with what an event tells besides
 abbrev pub with_event : List TableNames → List (List Entry) → Event → Members → Members
 with_event names journals (Begin statement text version plan tables) members =
-    of_statement statement (put (codes "enabled") (boolean (has_plan plan)) (put (codes "text") (string text) (put (codes "version") (count version) members)))
+    of_statement statement
+    (put (codes "enabled") (boolean (has_plan plan))
+    (put (codes "text") (string text) (put (codes "version") (count version) members)))
 with_event names journals (Queued statement kind at budget) members =
-    of_statement statement (put (codes "at") (count at) (put (codes "budget") (count budget) (put (codes "kind") (string (ask_name kind)) members)))
-with_event names journals (Refused statement why) members = of_statement statement (put (codes "why") (string (why_name why)) members)
+    of_statement statement
+    (put (codes "at") (count at)
+    (put (codes "budget") (count budget) (put (codes "kind") (string (ask_name kind)) members)))
+with_event names journals (Refused statement why) members =
+    of_statement statement (put (codes "why") (string (why_name why)) members)
 with_event names journals (Served asker request report) members =
-    put (codes "asker") (count asker) (put (codes "report") (report_data report) (put (codes "request") (count request) members))
+    put (codes "asker") (count asker)
+    (put (codes "report") (report_data report) (put (codes "request") (count request) members))
 with_event names journals (Taken statement) members = of_statement statement members
-with_event names journals (Spent statement turns) members = of_statement statement (put (codes "turns") (count turns) members)
+with_event names journals (Spent statement turns) members =
+    of_statement statement (put (codes "turns") (count turns) members)
 with_event names journals (Withdrawn statement) members = of_statement statement members
-with_event names journals (KillSent statement kind) members = of_statement statement (put (codes "kind") (string (kill_name kind)) members)
-with_event names journals (Waited statement steps) members = of_statement statement (put (codes "steps") (count steps) members)
+with_event names journals (KillSent statement kind) members =
+    of_statement statement (put (codes "kind") (string (kill_name kind)) members)
+with_event names journals (Waited statement steps) members =
+    of_statement statement (put (codes "steps") (count steps) members)
 with_event names journals (WaitSpent statement steps turns) members =
-    of_statement statement (put (codes "steps") (count steps) (put (codes "turns") (count turns) members))
+    of_statement statement
+    (put (codes "steps") (count steps) (put (codes "turns") (count turns) members))
 with_event names journals (End statement result steps) members =
-    of_statement statement (put (codes "outcome") (outcome_data names journals result) (put (codes "steps") (count steps) members))
+    of_statement statement
+    (put (codes "outcome") (outcome_data names journals result)
+    (put (codes "steps") (count steps) members))
 with_event names journals (Gone statement) members = of_statement statement members
 with_event names journals Close members = members
 

@@ -35,7 +35,9 @@ plan_in event = None
 abbrev pub plan_begun : List (List Entry) → (desk begin : ℕ) → Option Plan
 plan_begun journals desk begin =
     option_and_then (λ (entry : Entry). plan_in entry.event)
-    (slice_get (filter (λ (entry : Entry). (entry.actor == desk) && (entry.seq == begin)) (slice_index_or journals (desk - 1) [])) 0)
+    (slice_get
+    (filter (λ (entry : Entry). (entry.actor == desk) && (entry.seq == begin))
+    (slice_index_or journals (desk - 1) [])) 0)
 
 -- what a report shows by a kind of request
 abbrev pub shown_report : AskKind → Report → Option Report
@@ -69,24 +71,31 @@ refusal_members refusal.OutOfMemory = because (codes "OutOfMemory") no_members
 
 abbrev pub outcome_members : List TableNames → List (List Entry) → Outcome → Members
 outcome_members names journals (outcome.Rows columns rows) =
-    of_kind (codes "rows") (put (codes "columns") (array (items_of (map string columns))) (put (codes "count") (count (length rows)) no_members))
+    of_kind (codes "rows")
+    (put (codes "columns") (array (items_of (map string columns)))
+    (put (codes "count") (count (length rows)) no_members))
 outcome_members names journals (outcome.PlanShown plan) =
     of_kind (codes "plan") (put (codes "document") (document names plan None) no_members)
 outcome_members names journals (outcome.Analyzed plan report) =
     of_kind (codes "analyzed") (put (codes "document") (document names plan (Some report)) no_members)
 outcome_members names journals (outcome.Shown kind desk begin report) =
     of_kind (codes "shown")
-    (put (codes "document") (shown_data names (plan_begun journals desk begin) (shown_report kind report)) no_members)
-outcome_members names journals (outcome.Trace text) = of_kind (codes "trace") (put (codes "document") (trace_data text) no_members)
+    (put (codes "document")
+    (shown_data names (plan_begun journals desk begin) (shown_report kind report)) no_members)
+outcome_members names journals (outcome.Trace text) =
+    of_kind (codes "trace") (put (codes "document") (trace_data text) no_members)
 outcome_members names journals outcome.Set = of_kind (codes "set") no_members
 outcome_members names journals outcome.KillSent = of_kind (codes "kill_sent") no_members
-outcome_members names journals (outcome.Waited steps) = of_kind (codes "waited") (put (codes "steps") (count steps) no_members)
+outcome_members names journals (outcome.Waited steps) =
+    of_kind (codes "waited") (put (codes "steps") (count steps) no_members)
 outcome_members names journals (outcome.Refused why) = refusal_members why
 outcome_members names journals outcome.NoSuchThread = because (codes "NoSuchThread") no_members
 outcome_members names journals outcome.NotExplainable = because (codes "NotExplainable") no_members
-outcome_members names journals (outcome.TimedOut turns) = because (codes "TimedOut") (put (codes "turns") (count turns) no_members)
+outcome_members names journals (outcome.TimedOut turns) =
+    because (codes "TimedOut") (put (codes "turns") (count turns) no_members)
 outcome_members names journals (outcome.WaitSpent steps turns) =
-    because (codes "WaitSpent") (put (codes "steps") (count steps) (put (codes "turns") (count turns) no_members))
+    because (codes "WaitSpent")
+    (put (codes "steps") (count steps) (put (codes "turns") (count turns) no_members))
 outcome_members names journals outcome.RowLimit = because (codes "RowLimit") no_members
 outcome_members names journals outcome.TooManyRows = because (codes "TooManyRows") no_members
 outcome_members names journals outcome.Interrupted = because (codes "Interrupted") no_members

@@ -1,4 +1,5 @@
--- What is printed for journals: a line for each entry, session by session, each row behind the line of its End, and a last line.
+-- What is printed for journals: a line for each entry, session by session, each row behind the line
+-- of its End, and a last line.
 use Rattle.std.specs.Prelude.{◌≡◌, ℕ, true, ⊤, All, List, [], ◌∷◌, ◌++◌, map, length, codes, None, Some}
 use Rattle.std.specs.List.{flat_map}
 use Rattle.std.specs.Fmt.{signed_decimal}
@@ -42,7 +43,8 @@ rows_in (End statement (outcome.Rows columns rows) steps) = rows
 rows_in event = []
 
 abbrev pub entry_lines : List TableNames → List (List Entry) → Entry → List ℕ
-entry_lines names journals entry = line_of (entry_data names journals entry) ++ flat_map row_line (rows_in entry.event)
+entry_lines names journals entry =
+    line_of (entry_data names journals entry) ++ flat_map row_line (rows_in entry.event)
 
 -- nothing follows
 abbrev pub done_line : List ℕ
@@ -52,12 +54,14 @@ done_line = line_of (object (put (codes "done") (boolean true) no_members))
 unfoldable pub transcript : List TableNames → List (List Entry) → List ℕ
 transcript names journals = flat_map (flat_map (entry_lines names journals)) journals ++ done_line
 
--- A run of the plan over these tables was reported so: the plan is lawful, and each of its levels has its counters.
+-- A run of the plan over these tables was reported so: the plan is lawful, and each of its levels
+-- has its counters.
 pub record IsReportOf (tables : List Table) (plan : Plan) (report : Report) : Type 0 where
   pub lawful : IsLawful tables plan
   pub counted : length report.tables.items ≡ length plan.levels
 
--- An outcome can be told: its plans are lawful for these tables, and a plan that was shown is there. No trace has a document yet.
+-- An outcome can be told: its plans are lawful for these tables, and a plan that was shown is
+-- there. No trace has a document yet.
 abbrev pub CanTellOutcome : List Table → List (List Entry) → Outcome → Type 0
 CanTellOutcome tables journals (outcome.PlanShown plan) = IsLawful tables plan
 CanTellOutcome tables journals (outcome.Analyzed plan report) = IsReportOf tables plan report
@@ -74,4 +78,6 @@ CanTellEvent tables journals event = ⊤
 pub record CanTell (names : List TableNames) (journals : List (List Entry)) : Type 0 where
   pub tables : List Table
   pub names_are : names ≡ names_of tables
-  pub events : All (λ (journal : List Entry). All (λ (entry : Entry). CanTellEvent tables journals entry.event) journal) journals
+  pub events : All
+      (λ (journal : List Entry). All
+      (λ (entry : Entry). CanTellEvent tables journals entry.event) journal) journals

@@ -73,7 +73,8 @@ pub fn outcome_value(
 
 /// An outcome of a kind, with these members besides.
 fn of_kind(alloc: Global, kind: &str, members: Members) -> Result<Json, OutOfMemory>
-    ensures { IfOk result (λ json. view json ≡ object (of_kind kind.now (members_view members.entries))) }
+    ensures { IfOk result
+        (λ json. view json ≡ object (of_kind kind.now (members_view members.entries))) }
 {
     let mut members = members;
     put_text(alloc, &mut members, "kind", kind)?;
@@ -82,7 +83,8 @@ fn of_kind(alloc: Global, kind: &str, members: Members) -> Result<Json, OutOfMem
 
 /// An outcome that refuses, with its reason and these members besides.
 fn because(alloc: Global, why: &str, members: Members) -> Result<Json, OutOfMemory>
-    ensures { IfOk result (λ json. view json ≡ object (because why.now (members_view members.entries))) }
+    ensures { IfOk result
+        (λ json. view json ≡ object (because why.now (members_view members.entries))) }
 {
     let mut members = members;
     put_text(alloc, &mut members, "why", why)?;

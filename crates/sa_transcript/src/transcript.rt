@@ -58,7 +58,8 @@ fn push_entry(
     entry: &Entry,
 ) -> Result<(), OutOfMemory>
     requires { EventIsTold names.now journals.now entry.now.event }
-    ensures { OnOk result (text.new.items ≡ text.old.items ++ entry_lines names.now journals.now entry.now) }
+    ensures { OnOk result
+        (text.new.items ≡ text.old.items ++ entry_lines names.now journals.now entry.now) }
 {
     let value = entry_value(alloc, names, journals, entry)?;
     push_line(alloc, text, &value)?;

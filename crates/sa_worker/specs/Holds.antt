@@ -35,7 +35,8 @@ pub record CanRun (given : Given) (planned : Planned) : Type 0 where
 abbrev pub IsLimit : ℕ → Type 0
 IsLimit limit = (1 ≤ limit) × (limit ≤ 2 ^ 40)
 
--- What a worker asks of an answer of preparation: its plan can be run, and a step limit is within its bounds.
+-- What a worker asks of an answer of preparation: its plan can be run, and a step limit is within
+-- its bounds.
 abbrev pub IsSoundAnswer : Given → Answer → Type 0
 IsSoundAnswer given (prepared text (work.Select planned)) = CanRun given planned
 IsSoundAnswer given (prepared text (work.Analyze planned)) = CanRun given planned
@@ -76,31 +77,46 @@ run_at view planned steps = record (first_run view planned) { steps = steps }
 -- why a run ends: it stopped, or a kill was seen at its last point
 abbrev pub EndsSo : View → Planned → (made : ℕ) → Progress → Finish Progress → Type 0
 EndsSo view planned made run finish =
-    ((analyze : Bool) × IsRunOf view analyze planned × Stops view.given view.settings.limit analyze planned (made * view.given.quantum) run finish)
+    ((analyze : Bool) × IsRunOf view analyze planned
+    × Stops view.given view.settings.limit analyze planned
+    (made * view.given.quantum) run finish)
     ⊎ (finish ≡ Broken Killed run) × (1 ≤ made) × (run.steps ≡ made * view.given.quantum)
 
 -- What is true at each stage.
 abbrev pub StageHolds : View → Stage → Type 0
-StageHolds view prepares = (view.number ≤ length view.given.texts + 1) × (view.turn ≤ (view.number - 1) * longest)
-StageHolds view opens = (view.number ≤ length view.given.texts) × (view.turn ≤ (view.number - 1) * longest)
-StageHolds view closes = (view.number ≤ length view.given.texts + 1) × (view.turn ≤ view.number * longest)
+StageHolds view prepares =
+    (view.number ≤ length view.given.texts + 1) × (view.turn ≤ (view.number - 1) * longest)
+StageHolds view opens =
+    (view.number ≤ length view.given.texts) × (view.turn ≤ (view.number - 1) * longest)
+StageHolds view closes =
+    (view.number ≤ length view.given.texts + 1) × (view.turn ≤ view.number * longest)
 StageHolds view done = ⊤
 StageHolds view (ends result) = (last : ℕ) × (last ≤ 2 * view.given.turns) × IsOn view last
 StageHolds view (asks kind desk) = IsPlainly view (shows kind desk) 0
-StageHolds view (polls kind desk count) = IsWithin 0 count view.given.turns × IsPlainly view (shows kind desk) (1 + 2 * count)
-StageHolds view (looks_asking kind desk count) = IsWithin 1 count view.given.turns × IsPlainly view (shows kind desk) (2 * count)
-StageHolds view (withdraws kind desk count) = IsWithin 1 count view.given.turns × IsPlainly view (shows kind desk) (1 + 2 * count)
+StageHolds view (polls kind desk count) =
+    IsWithin 0 count view.given.turns × IsPlainly view (shows kind desk) (1 + 2 * count)
+StageHolds view (looks_asking kind desk count) =
+    IsWithin 1 count view.given.turns × IsPlainly view (shows kind desk) (2 * count)
+StageHolds view (withdraws kind desk count) =
+    IsWithin 1 count view.given.turns × IsPlainly view (shows kind desk) (1 + 2 * count)
 StageHolds view (stage.kills kind desk) = IsPlainly view (kills kind desk) 0
-StageHolds view (stage.waits desk at count) = IsWithin 0 count view.given.turns × IsPlainly view (waits desk at) (2 * count)
-StageHolds view (looks_waiting desk at count) = IsWithin 1 count view.given.turns × IsPlainly view (waits desk at) (2 * count - 1)
-StageHolds view (makes_steps planned made run) = IsRunning view planned made × (run ≡ run_at view planned (made * view.given.quantum))
+StageHolds view (stage.waits desk at count) =
+    IsWithin 0 count view.given.turns × IsPlainly view (waits desk at) (2 * count)
+StageHolds view (looks_waiting desk at count) =
+    IsWithin 1 count view.given.turns × IsPlainly view (waits desk at) (2 * count - 1)
+StageHolds view (makes_steps planned made run) =
+    IsRunning view planned made × (run ≡ run_at view planned (made * view.given.quantum))
 StageHolds view (points planned made run) =
-    IsRunning view planned made × (record run { since_looked = 0 } ≡ run_at view planned ((made + 1) * view.given.quantum)) ×
-    (run.steps < length (items planned.plan view.given.tables)) × IsClear view.settings.limit planned.plan view.given.tables run.steps
+    IsRunning view planned made
+    × (record run { since_looked = 0 }
+    ≡ run_at view planned ((made + 1) * view.given.quantum)) ×
+    (run.steps < length (items planned.plan view.given.tables))
+    × IsClear view.settings.limit planned.plan view.given.tables run.steps
 StageHolds view (ends_run planned made run given) =
     IsRunning view planned made × EndsSo view planned made run given ×
     (record run { steps = 0; since_looked = 0; failed = false } ≡ first_run view planned) ×
-    (made * view.given.quantum ≤ run.steps) × (run.steps ≤ made * view.given.quantum + view.given.quantum) ×
+    (made * view.given.quantum ≤ run.steps)
+    × (run.steps ≤ made * view.given.quantum + view.given.quantum) ×
     IsClear view.settings.limit planned.plan view.given.tables run.steps
 
 pub record HoldsAt (view : View) (stage : Stage) : Type 0 where

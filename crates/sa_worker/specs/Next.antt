@@ -98,7 +98,8 @@ module _ (view : View) where
 
   -- so many polls were answered NotYet before
   abbrev pub after_poll : AskKind → (desk count : ℕ) → Polled → View
-  after_poll kind desk count (polled.Taken report begin) = goes_to (ends (outcome.Shown kind desk begin report))
+  after_poll kind desk count (polled.Taken report begin) =
+      goes_to (ends (outcome.Shown kind desk begin report))
   after_poll kind desk count (polled.Spent turns) = goes_to (ends (outcome.TimedOut turns))
   after_poll kind desk count polled.NotYet = goes_to (looks_asking kind desk (count + 1))
 
@@ -138,12 +139,16 @@ module _ (view : View) where
   next_at (ends result) desk stamp = after_end result (end_answer (is_killed (phase desk)))
   next_at (asks kind i) desk stamp = after_ask kind i (ask_answer (phase desk))
   next_at (polls kind i count) desk stamp = after_poll kind i count (poll.polled desk stamp view.number)
-  next_at (looks_asking kind i count) desk stamp = after_look_asking kind i count (point_answer (is_killed (phase desk)))
+  next_at (looks_asking kind i count) desk stamp =
+      after_look_asking kind i count (point_answer (is_killed (phase desk)))
   next_at (withdraws kind i count) desk stamp = after_withdraw (withdrawn desk stamp view.number)
   next_at (stage.kills kind i) desk stamp = after_kill (kill_answer (phase desk))
-  next_at (stage.waits i at count) desk stamp = after_look i at count (look.looked desk stamp view.number at)
-  next_at (looks_waiting i at count) desk stamp = after_look_waiting i at count (point_answer (is_killed (phase desk)))
-  next_at (points planned made run) desk stamp = after_point planned made run (point_answer (is_killed (phase desk)))
+  next_at (stage.waits i at count) desk stamp =
+      after_look i at count (look.looked desk stamp view.number at)
+  next_at (looks_waiting i at count) desk stamp =
+      after_look_waiting i at count (point_answer (is_killed (phase desk)))
+  next_at (points planned made run) desk stamp =
+      after_point planned made run (point_answer (is_killed (phase desk)))
   next_at (ends_run planned made run given) desk stamp =
       after_end (outcome_of itself given) (end_answer (is_killed (phase desk)))
   next_at stage desk stamp = view

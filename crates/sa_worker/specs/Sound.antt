@@ -6,4 +6,5 @@ use Rattle.sa_worker.specs.Holds.{IsSoundAnswer}
 
 -- Each plan that it gives can be run, and each step limit is within its bounds.
 pub record GivesSound (gives : Answers) (given : Given) : Type 0 where
-  pub sound : (text : List ℕ) (answer : Answer) → IsAnswer gives text answer → IsSoundAnswer given answer
+  pub sound : (text : List ℕ) (answer : Answer) → IsAnswer gives text answer
+      → IsSoundAnswer given answer

@@ -18,7 +18,8 @@ use Rattle.sa_desk.specs.program.Turn as call
 
 -- What comes next.
 pub data Stage : Type 0 where
-  -- private work comes before the next call: a statement is prepared, or steps are made of a run that has made so many points
+  -- private work comes before the next call: a statement is prepared, or steps are made of a run
+  -- that has made so many points
   prepares : Stage
   makes_steps : (planned : Planned) (made : ℕ) (run : Progress) → Stage
   -- nothing is on: the next call begins the statement, or closes
@@ -49,7 +50,8 @@ pub record View : Type 0 where
   pub turn : ℕ
   -- the number of the statement that is on or begins next
   pub number : ℕ
-  -- of the last one that was prepared: what preparation answered; of the last one that began: the turn of its Begin
+  -- of the last one that was prepared: what preparation answered; of the last one that began: the
+  -- turn of its Begin
   pub answer : Answer
   pub began : ℕ
   pub stage : Stage
@@ -128,9 +130,12 @@ abbrev pub outline_at : View → (begin : ℕ) → Stage → Outline
 outline_at view begin prepares = free
 outline_at view begin opens = free
 outline_at view begin closes = free
-outline_at view begin (makes_steps planned made run) = running view.number begin view.began planned.plan view.given.tables
-outline_at view begin (points planned made run) = running view.number begin view.began planned.plan view.given.tables
-outline_at view begin (ends_run planned made run given) = running view.number begin view.began planned.plan view.given.tables
+outline_at view begin (makes_steps planned made run) =
+    running view.number begin view.began planned.plan view.given.tables
+outline_at view begin (points planned made run) =
+    running view.number begin view.began planned.plan view.given.tables
+outline_at view begin (ends_run planned made run given) =
+    running view.number begin view.began planned.plan view.given.tables
 outline_at view begin done = over
 outline_at view begin stage = plainly view.number begin view.began
 
@@ -173,4 +178,6 @@ owed_later view stage = 3 * left view
 
 -- what the session still pays on a desk at most
 abbrev pub owed : View → Stage → (desk : ℕ) → ℕ
-owed view stage desk = owed_aiming stage desk + owed_later view stage + aimed view.given.session desk (owed_own view stage)
+owed view stage desk =
+    owed_aiming stage desk + owed_later view stage + aimed view.given.session desk
+    (owed_own view stage)

@@ -15,8 +15,10 @@ HasAnswer closes = ⊥
 HasAnswer done = ⊥
 HasAnswer stage = ⊤
 
--- What preparation gave: an answer to each statement that has ended, and one to that which is prepared or on.
-pub record WereGiven (gives : Answers) (view : View) (stage : Stage) (answers : List Answer) : Type 0 where
+-- What preparation gave: an answer to each statement that has ended, and one to that which is
+-- prepared or on.
+pub record WereGiven (gives : Answers) (view : View) (stage : Stage)
+    (answers : List Answer) : Type 0 where
   pub ended : AreAnswers gives view.given.texts answers
   pub next : HasAnswer stage → IsAnswer gives (text_at view) view.answer
 
@@ -28,9 +30,12 @@ pub record IsWorking (gives : Answers) (world : World) (view : View) : Type 0 wh
   pub given : WereGiven gives view view.stage answers
 
 -- All sessions have come so far, and their workers hold these.
-pub record AreWorking (gives : Answers) (sessions : Sessions) (world : World) (views : ℕ → View) : Type 0 where
-  pub given : (session : ℕ) → 1 ≤ session → session ≤ length sessions.texts → (views session).given ≡ given_of sessions session
-  pub working : (session : ℕ) → 1 ≤ session → session ≤ length sessions.texts → IsWorking gives world (views session)
+pub record AreWorking (gives : Answers) (sessions : Sessions) (world : World)
+    (views : ℕ → View) : Type 0 where
+  pub given : (session : ℕ) → 1 ≤ session → session ≤ length sessions.texts
+      → (views session).given ≡ given_of sessions session
+  pub working : (session : ℕ) → 1 ≤ session → session ≤ length sessions.texts
+      → IsWorking gives world (views session)
 
 -- One of them holds another view.
 abbrev pub with_view : (ℕ → View) → (session : ℕ) → View → ℕ → View

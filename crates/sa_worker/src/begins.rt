@@ -62,7 +62,8 @@ fn open<P: Preparer>(session: &Session, source: Text, prepare: &P) -> (Opening, 
 fn open_prepared(session: &Session, prepared: Prepared) -> (Opening, About)
     requires given { IsGiven (view_of session.now).given }
     requires limit { IsLimit session.now.settings.limit }
-    requires sound { IsSoundAnswer (view_of session.now).given (course.prepared prepared.text prepared.work) }
+    requires sound { IsSoundAnswer (view_of session.now).given
+        (course.prepared prepared.text prepared.work) }
     ensures answer { (answer_of result.1 ≡ course.prepared prepared.text prepared.work)
         ⊎ (answer_of result.1 ≡ course.starved prepared.text) }
     ensures opening { IsOpening (answered session.now (answer_of result.1)) result.0 }

@@ -27,14 +27,17 @@ ask_event NoSuchThread number kind at budget = event.Refused number why.NoSuchTh
 module _ (desk : Contents) (stamp : Stamp) (number : ℕ) (kind : AskKind) (budget : ℕ) where
   -- the one entry; a request is queued at the number that is published
   abbrev pub ask_entries : List Entry
-  ask_entries = entry_by desk stamp (ask_event (ask_answer (phase desk)) number kind desk.published budget) ∷ []
+  ask_entries = entry_by desk stamp
+      (ask_event (ask_answer (phase desk)) number kind desk.published budget) ∷ []
 
   -- The caller's polls are counted from here on.
   abbrev pub after_ask : Contents
-  after_ask = record (with_entries ask_entries desk) { polls = slice_set desk.polls (stamp.actor - 1) 0 }
+  after_ask =
+      record (with_entries ask_entries desk) { polls = slice_set desk.polls (stamp.actor - 1) 0 }
 
 -- The caller has no request here, and its budget is the desk's.
-pub record MayAsk (desk : Contents) (stamp : Stamp) (number : ℕ) (kind : AskKind) (budget : ℕ) : Type 0 where
+pub record MayAsk (desk : Contents) (stamp : Stamp) (number : ℕ) (kind : AskKind)
+    (budget : ℕ) : Type 0 where
   pub caller : IsCaller desk stamp
   pub none : HasNone stamp.actor (phase desk) (state desk).replies
   pub budget_is : budget ≡ desk.terms.turns

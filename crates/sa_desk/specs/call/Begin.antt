@@ -31,7 +31,8 @@ module _ (desk : Contents) (stamp : Stamp) (event : Event) (number : ℕ) where
   after_begin = with_entries begin_entries desk
 
 -- Nothing is on the desk of the caller, which isn't closed.
-pub record MayBegin (desk : Contents) (stamp : Stamp) (event : Event) (number version : ℕ) (plan : Option Plan) (tables : Option RunData) : Type 0 where
+pub record MayBegin (desk : Contents) (stamp : Stamp) (event : Event) (number version : ℕ)
+    (plan : Option Plan) (tables : Option RunData) : Type 0 where
   pub caller : IsCaller desk stamp
   pub own : IsOwner desk stamp
   pub free : phase desk ≡ idle

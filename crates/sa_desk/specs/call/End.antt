@@ -46,7 +46,8 @@ module _ {R : Type 0} (progress : R → Progress) where
   -- the outcome where no kill stands
   abbrev pub outcome_of : Finish R → Outcome
   outcome_of (Plain given) = given
-  outcome_of (Rows names run) = let made = progress run in outcome.Rows names (output made.plan made.data_read)
+  outcome_of (Rows names run) = let made =
+      progress run in outcome.Rows names (output made.plan made.data_read)
   outcome_of (Analyzed plan run) = outcome.Analyzed plan (report_of (progress run))
   outcome_of (Broken fault run) = stopped fault
 
@@ -61,7 +62,8 @@ IsGivenRun (unplanned statement) None = ⊤
 IsGivenRun (planned statement execution) (Some run) = IsRunOf (planned statement execution) run
 IsGivenRun phase run = ⊥
 
--- a run has made at most a quantum of steps more than are published, and its turn follows those that were
+-- a run has made at most a quantum of steps more than are published, and its turn follows those
+-- that were
 pub record IsTimely (desk : Contents) (stamp : Stamp) (run : Progress) : Type 0 where
   pub least : desk.published ≤ run.steps
   pub most : run.steps ≤ desk.published + desk.terms.quantum
@@ -77,7 +79,8 @@ module _ (desk : Contents) (stamp : Stamp) (number : ℕ) (run : Option Progress
   abbrev pub end_entry : Entry
   end_entry =
       let outcome = if is_killed (phase desk) then outcome.Interrupted else given in
-      entry_by desk (later (length (served_by desk stamp run)) stamp) (event.End number outcome (steps_of run))
+      entry_by desk (later (length (served_by desk stamp run)) stamp)
+      (event.End number outcome (steps_of run))
 
   abbrev pub end_entries : List Entry
   end_entries = served_by desk stamp run ++ end_entry ∷ []
@@ -93,11 +96,13 @@ IsOn number (planned statement execution) = number ≡ statement.number
 IsOn number phase = ⊥
 
 -- The caller's statement of this number is on, and what it is given fits.
-pub record MayEnd {R : Type 0} (progress : R → Progress) (desk : Contents) (stamp : Stamp) (number : ℕ) (finish : Finish R) : Type 0 where
+pub record MayEnd {R : Type 0} (progress : R → Progress) (desk : Contents) (stamp : Stamp)
+    (number : ℕ) (finish : Finish R) : Type 0 where
   pub caller : IsCaller desk stamp
   pub own : IsOwner desk stamp
   pub on : IsOn number (phase desk)
   pub run : IsGivenRun (phase desk) (run_of progress finish)
   pub timely : IfSome (run_of progress finish) (IsTimely desk stamp)
   pub fits : Fits progress (is_killed (phase desk)) finish
-  pub room : HasRoom desk stamp.actor (end_entries desk stamp number (run_of progress finish) (outcome_of progress finish))
+  pub room : HasRoom desk stamp.actor
+      (end_entries desk stamp number (run_of progress finish) (outcome_of progress finish))

@@ -16,10 +16,12 @@ abbrev pub looks_of : Option OpenWait → (number at : ℕ) → ℕ
 looks_of None number at = 0
 looks_of (Some wait) number at = if wait.statement == number && wait.at == at then wait.looks else 0
 
--- The steps are reached where so many are published. Else the look counts, and the last one of the budget ends the wait.
+-- The steps are reached where so many are published. Else the look counts, and the last one of the
+-- budget ends the wait.
 abbrev pub open_answer : (at published looks turns : ℕ) → Looked
 open_answer at published looks turns =
-    if nat_lt published at then (if looks + 1 == turns then Spent published turns else NotYet) else Reached published
+    if nat_lt published at then (if looks + 1 == turns then Spent published turns else NotYet)
+    else Reached published
 
 abbrev pub look_answer : Phase → (at published looks turns : ℕ) → Looked
 look_answer closed at published looks turns = NoSuchThread
@@ -49,7 +51,10 @@ module _ (desk : Contents) (stamp : Stamp) (number at : ℕ) where
 
   abbrev pub after_look : Contents
   after_look =
-      record (with_entries look_entries desk) { waits = slice_set desk.waits (stamp.actor - 1) (wait_after looked number at looks_before) }
+      record (with_entries look_entries desk) {
+        waits = slice_set desk.waits (stamp.actor - 1)
+            (wait_after looked number at looks_before);
+      }
 
 -- Any session may wait for any other, for as long as the desk's requests last.
 pub record MayLook (desk : Contents) (stamp : Stamp) (number at budget : ℕ) : Type 0 where

@@ -15,7 +15,8 @@ module _ (desk : Contents) (stamp : Stamp) (run : Progress) where
   abbrev pub after_point : Contents
   after_point = record (with_entries (served_entries desk stamp run) desk) { published = run.steps }
 
--- The run of the caller's statement isn't finished, and has made a quantum of steps more than are published.
+-- The run of the caller's statement isn't finished, and has made a quantum of steps more than are
+-- published.
 pub record MayPoint (desk : Contents) (stamp : Stamp) (run : Progress) : Type 0 where
   pub caller : IsCaller desk stamp
   pub own : IsOwner desk stamp

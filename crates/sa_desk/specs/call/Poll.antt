@@ -15,7 +15,8 @@ use Rattle.sa_desk.specs.Contents.{Contents, state, phase, IsCaller, HasRoom, en
 abbrev pub reply_to : ℕ → List Reply → Option Reply
 reply_to actor replies = find (λ reply. reply.asker == actor) replies
 
--- An answer is taken. Without one the poll counts, and the last one of the budget takes the request out.
+-- An answer is taken. Without one the poll counts, and the last one of the budget takes the request
+-- out.
 abbrev pub poll_answer : Option Reply → (polls turns : ℕ) → Polled
 poll_answer (Some reply) polls turns = Taken reply.report reply.begin
 poll_answer None polls turns = if polls + 1 == turns then Spent turns else NotYet
@@ -32,16 +33,19 @@ count_poll answer session polls = polls
 
 module _ (desk : Contents) (stamp : Stamp) (number : ℕ) where
   abbrev pub polled : Polled
-  polled = poll_answer (reply_to stamp.actor (state desk).replies) (slice_index desk.polls (stamp.actor - 1)) desk.terms.turns
+  polled = poll_answer (reply_to stamp.actor (state desk).replies)
+      (slice_index desk.polls (stamp.actor - 1)) desk.terms.turns
 
   abbrev pub poll_entries : List Entry
   poll_entries = map (entry_by desk stamp) (poll_events polled number)
 
   abbrev pub after_poll : Contents
-  after_poll = record (with_entries poll_entries desk) { polls = count_poll polled (stamp.actor - 1) desk.polls }
+  after_poll = record
+      (with_entries poll_entries desk) { polls = count_poll polled (stamp.actor - 1) desk.polls }
 
 -- The caller's request of this number is here, waiting or served.
 pub record MayPoll (desk : Contents) (stamp : Stamp) (number : ℕ) : Type 0 where
   pub caller : IsCaller desk stamp
-  pub there : IsQueued stamp.actor number (queue_of (phase desk)) ⊎ IsServed stamp.actor number (state desk).replies
+  pub there : IsQueued stamp.actor number (queue_of (phase desk))
+      ⊎ IsServed stamp.actor number (state desk).replies
   pub room : HasRoom desk stamp.actor (poll_entries desk stamp number)

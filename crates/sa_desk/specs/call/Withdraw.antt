@@ -34,5 +34,6 @@ module _ (desk : Contents) (stamp : Stamp) (number : ℕ) where
 -- The caller's request of this number is here, waiting or served.
 pub record MayWithdraw (desk : Contents) (stamp : Stamp) (number : ℕ) : Type 0 where
   pub caller : IsCaller desk stamp
-  pub there : IsQueued stamp.actor number (queue_of (phase desk)) ⊎ IsServed stamp.actor number (state desk).replies
+  pub there : IsQueued stamp.actor number (queue_of (phase desk))
+      ⊎ IsServed stamp.actor number (state desk).replies
   pub room : HasRoom desk stamp.actor (withdraw_entries desk stamp number)

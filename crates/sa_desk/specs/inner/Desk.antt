@@ -21,7 +21,8 @@ contents_of desk = record {
 
 -- what a desk keeps of a statement
 abbrev pub kept_of : Statement → On
-kept_of statement = record { statement = statement.number; begin = statement.begin; killed = statement.killed }
+kept_of statement =
+    record { statement = statement.number; begin = statement.begin; killed = statement.killed }
 
 -- what a desk keeps of a phase
 abbrev pub held_phase : Phase → held.Phase
@@ -31,7 +32,8 @@ held_phase (planned statement execution) = Planned (kept_of statement)
 held_phase (serving statement execution steps turn) = Planned (kept_of statement)
 held_phase closed = Closed
 
--- The contents are sound, the other fields keep what the journal leaves, and the journal has room for all shares.
+-- The contents are sound, the other fields keep what the journal leaves, and the journal has room
+-- for all shares.
 pub record IsReady (desk : Inside) : Type 0 where
   pub sound : IsSound (contents_of desk)
   pub phase_is : desk.phase ≡ held_phase (phase (contents_of desk))

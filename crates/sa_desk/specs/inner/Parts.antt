@@ -51,7 +51,9 @@ begin_in phase = 0
 -- one answer for each request
 abbrev pub answers_with : Report → ℕ → List Request → List Reply
 answers_with report begin queue =
-    map (λ request. record { asker = request.asker; request = request.request; report = report; begin = begin }) queue
+    map (λ request.
+    record { asker = request.asker; request = request.request; report = report; begin = begin })
+    queue
 
 -- The session has one request here at most, and one answer.
 abbrev pub AsksOnce : ℕ → List Request → Type 0
@@ -64,7 +66,14 @@ HasOneReply session replies = count_by (λ reply. reply.asker == session) replie
 abbrev pub served_from : ℕ → Stamp → Report → List Request → List Entry
 served_from desk stamp report [] = []
 served_from desk stamp report (request ∷ rest) =
-    record { desk = desk; actor = stamp.actor; seq = stamp.seq; turn = stamp.turn; event = Served request.asker request.request report } ∷ served_from desk (later 1 stamp) report rest
+    record {
+      desk = desk;
+      actor = stamp.actor;
+      seq = stamp.seq;
+      turn = stamp.turn;
+      event = Served request.asker request.request report;
+    }
+    ∷ served_from desk (later 1 stamp) report rest
 
 abbrev pub served_by_server : Server → Report → List Request → List Entry
 served_by_server server report queue = served_from server.desk server.stamp report queue
@@ -96,7 +105,8 @@ is_over phase = false
 
 -- what a look is answered in this phase
 abbrev pub answer_to_look : Phase → (at published looks turns : ℕ) → Looked
-answer_to_look phase at published looks turns = if is_over phase then answer.NoSuchThread else open_answer at published looks turns
+answer_to_look phase at published looks turns =
+    if is_over phase then answer.NoSuchThread else open_answer at published looks turns
 
 -- an event, if there is one
 abbrev pub event_list : Option Event → List Event

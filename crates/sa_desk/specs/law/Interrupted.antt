@@ -18,8 +18,9 @@ is_kill event = false
 abbrev pub has_kill : List Entry → Bool
 has_kill entries = list_any (λ entry. is_kill entry.event) entries
 
--- The End that comes after these entries is of the statement that is on, and is Interrupted exactly where a kill stands in
--- the entries since its Begin.
-pub record EndsAsKilled (terms : Terms) (before : List Entry) (number : ℕ) (outcome : Outcome) : Type 0 where
+-- The End that comes after these entries is of the statement that is on, and is Interrupted exactly
+-- where a kill stands in the entries since its Begin.
+pub record EndsAsKilled (terms : Terms) (before : List Entry) (number : ℕ)
+    (outcome : Outcome) : Type 0 where
   pub on : IsOn terms number before
   pub killed : (outcome ≡ Interrupted) ↔ (has_kill on.since ≡ true)

@@ -14,8 +14,8 @@ IsWithin (Begin number text version plan tables) = ⊥
 IsWithin (End number outcome steps) = ⊥
 IsWithin event = ⊤
 
--- After these entries the statement of this number is on: the desk's own session has begun it, and neither a Begin nor an
--- End stands in the entries since.
+-- After these entries the statement of this number is on: the desk's own session has begun it, and
+-- neither a Begin nor an End stands in the entries since.
 pub record IsOn (terms : Terms) (number : ℕ) (before : List Entry) : Type 0 where
   pub earlier : List Entry
   pub begin : Entry

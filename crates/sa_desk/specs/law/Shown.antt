@@ -11,8 +11,8 @@ use Rattle.sa_desk.specs.State.{Terms}
 use Rattle.sa_desk.specs.law.On.{IsOn}
 use Rattle.sa_desk.specs.law.Talk.{words}
 
--- The asker's request of this number stands in these entries, queued when so many steps were published, and nothing after
--- it in them answers it or ends it.
+-- The asker's request of this number stands in these entries, queued when so many steps were
+-- published, and nothing after it in them answers it or ends it.
 pub record IsAsked (since : List Entry) (asker request at : ℕ) : Type 0 where
   pub first : List Entry
   pub queued : Entry
@@ -24,10 +24,12 @@ pub record IsAsked (since : List Entry) (asker request at : ℕ) : Type 0 where
   pub asks : queued.event ≡ Queued request kind at budget
   pub silent : words asker later ≡ []
 
--- The answer that comes after these entries is the desk's own session's, about its statement that is on: its report is what the
--- plan of that statement's Begin counts over that Begin's tables, after a number of steps that is at least the one at which the
--- request was queued, since that Begin, and at most a quantum more.
-pub record IsShown (terms : Terms) (before : List Entry) (answer : Entry) (asker request : ℕ) (report : Report) : Type 0 where
+-- The answer that comes after these entries is the desk's own session's, about its statement that
+-- is on: its report is what the plan of that statement's Begin counts over that Begin's tables,
+-- after a number of steps that is at least the one at which the request was queued, since that
+-- Begin, and at most a quantum more.
+pub record IsShown (terms : Terms) (before : List Entry) (answer : Entry) (asker request : ℕ)
+    (report : Report) : Type 0 where
   pub own : answer.actor ≡ terms.desk
   pub number : ℕ
   pub on : IsOn terms number before

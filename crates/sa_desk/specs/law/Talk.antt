@@ -4,8 +4,8 @@ use Rattle.sa_desk.specs.declared.entry.Entry.{Entry}
 use Rattle.sa_desk.specs.declared.entry.Event.{Event}
 use Rattle.sa_desk.specs.declared.entry.Event.TheVariants.{Queued, Served, Taken, Spent, Withdrawn}
 
--- What an entry says of a session's request, by the request's number: it was queued, it was answered, its answer was taken,
--- or it left without one.
+-- What an entry says of a session's request, by the request's number: it was queued, it was
+-- answered, its answer was taken, or it left without one.
 pub data Word : Type 0 where
   asks : (request : ℕ) → Word
   answers : (request : ℕ) → Word
@@ -14,8 +14,10 @@ pub data Word : Type 0 where
 
 -- The desk's own session answers; all else the session that asks says itself.
 abbrev pub word_by : ℕ → ℕ → Event → Option Word
-word_by session actor (Queued number kind at budget) = if actor == session then Some (asks number) else None
-word_by session actor (Served asker number report) = if asker == session then Some (answers number) else None
+word_by session actor (Queued number kind at budget) =
+    if actor == session then Some (asks number) else None
+word_by session actor (Served asker number report) =
+    if asker == session then Some (answers number) else None
 word_by session actor (Taken number) = if actor == session then Some (takes number) else None
 word_by session actor (Spent number turns) = if actor == session then Some (leaves number) else None
 word_by session actor (Withdrawn number) = if actor == session then Some (leaves number) else None
@@ -31,8 +33,9 @@ pub data Standing : Type 0 where
   waiting : (request : ℕ) → Standing
   answered : (request : ℕ) → Standing
 
--- From this standing the words come in turn: a request is queued only where none is open. What waits is answered or leaves,
--- what was answered is taken, and each of these is said by the request's own number. Nothing else is said.
+-- From this standing the words come in turn: a request is queued only where none is open. What
+-- waits is answered or leaves, what was answered is taken, and each of these is said by the
+-- request's own number. Nothing else is said.
 abbrev pub IsTalk : Standing → List Word → Type 0
 IsTalk standing [] = ⊤
 IsTalk nothing_open (asks number ∷ rest) = IsTalk (waiting number) rest

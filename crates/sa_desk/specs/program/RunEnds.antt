@@ -29,7 +29,8 @@ IsRoundedDown steps quantum turns = (turns * quantum ≤ steps) × (steps < turn
 -- The last turn of a run of so many steps that began in turn b: each full turn makes a quantum of them.
 abbrev pub IsLastTurn : (quantum b steps turn : ℕ) → Type 0
 IsLastTurn quantum b steps turn =
-    (steps ≡ 0) × (turn ≡ b + 1) ⊎ (0 < steps) × (turns : ℕ) × IsRoundedUp steps quantum turns × (turn ≡ b + turns)
+    (steps ≡ 0) × (turn ≡ b + 1)
+    ⊎ (0 < steps) × (turns : ℕ) × IsRoundedUp steps quantum turns × (turn ≡ b + turns)
 
 -- The run made all items.
 pub record IsWhole (given : Given) (limit b : ℕ) (plan : Plan) (steps turn : ℕ) : Type 0 where
@@ -45,26 +46,35 @@ pub record IsCut (given : Given) (limit b : ℕ) (plan : Plan) (steps turn : ℕ
   pub rounded : IsRoundedDown steps given.quantum turns
   pub last : turn ≡ b + turns + 1
 
--- A SELECT or an ANALYZE of this plan ends so. A refusal comes at its own step and at no later one. Memory runs out only where the
--- next item takes some. A kill is seen only where the run was looked into.
+-- A SELECT or an ANALYZE of this plan ends so. A refusal comes at its own step and at no later one.
+-- Memory runs out only where the next item takes some. A kill is seen only where the run was looked
+-- into.
 module _ (given : Given) (limit number b : ℕ) where
   abbrev pub RunEnds : Bool → Planned → (steps turn : ℕ) → Outcome → Type 0
   RunEnds false planned steps turn (outcome.Rows names rows) =
-      (names ≡ names_of planned.plan) × (rows ≡ output planned.plan given.tables) × IsWhole given limit b planned.plan steps turn
+      (names ≡ names_of planned.plan) × (rows ≡ output planned.plan given.tables)
+      × IsWhole given limit b planned.plan steps turn
   RunEnds true planned steps turn (outcome.Analyzed plan report) =
-      (plan ≡ planned.plan) × (report ≡ counts number planned.plan given.tables steps) × IsWhole given limit b planned.plan steps turn
-  RunEnds analyze planned steps turn outcome.RowLimit = IsCut given limit b planned.plan steps turn × (steps ≡ limit)
+      (plan ≡ planned.plan) × (report ≡ counts number planned.plan given.tables steps)
+      × IsWhole given limit b planned.plan steps turn
+  RunEnds analyze planned steps turn outcome.RowLimit =
+      IsCut given limit b planned.plan steps turn × (steps ≡ limit)
   RunEnds analyze planned steps turn outcome.TooManyRows =
-      IsCut given limit b planned.plan steps turn × (steps < limit) × (most_rows < length (kept planned.plan given.tables (steps + 1)))
+      IsCut given limit b planned.plan steps turn × (steps < limit)
+      × (most_rows < length (kept planned.plan given.tables (steps + 1)))
   RunEnds analyze planned steps turn outcome.OutOfMemory =
-      IsCut given limit b planned.plan steps turn × IsClear limit planned.plan given.tables (steps + 1) ×
+      IsCut given limit b planned.plan steps turn
+      × IsClear limit planned.plan given.tables (steps + 1) ×
       EmitsAt planned.plan given.tables steps
   RunEnds analyze planned steps turn outcome.Interrupted =
-      IsCut given limit b planned.plan steps turn × (turns : ℕ) × (1 ≤ turns) × (steps ≡ turns * given.quantum)
+      IsCut given limit b planned.plan steps turn × (turns : ℕ) × (1 ≤ turns)
+      × (steps ≡ turns * given.quantum)
   RunEnds analyze planned steps turn result = ⊥
 
   -- After so many points the run has items left, and nothing was refused.
   abbrev pub RunsOn : Planned → (points : ℕ) → Type 0
   RunsOn planned points =
       let steps = points * given.quantum in
-      (points ≡ 0) ⊎ (steps < length (items planned.plan given.tables)) × IsClear limit planned.plan given.tables steps
+      (points ≡ 0)
+      ⊎ (steps < length (items planned.plan given.tables))
+      × IsClear limit planned.plan given.tables steps

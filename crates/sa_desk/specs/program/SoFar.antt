@@ -33,7 +33,8 @@ abbrev pub Runs : Course → Planned → Type 0
 Runs (runs analyze planned) made = made ≡ planned
 Runs course made = ⊥
 
--- What stands after whole statements, the last of which ended in this turn; these texts are left, the first of which has this number.
+-- What stands after whole statements, the last of which ended in this turn; these texts are left,
+-- the first of which has this number.
 module _ (given : Given) (settings : Settings) (number last : ℕ) (texts : List (List ℕ)) where
   -- A statement is on, with this Begin.
   pub record IsOpen (b : ℕ) (answer : Answer) (begin : Entry) : Type 0 where
@@ -42,10 +43,12 @@ module _ (given : Given) (settings : Settings) (number last : ℕ) (texts : List
     pub texts_are : texts ≡ text ∷ rest
     pub follows : b ≡ last + 1
     pub own : IsOwnEntry given b begin
-    pub begins : BeginsAs given (course_of given settings answer) number (text_of text answer) begin.event
+    pub begins : BeginsAs given (course_of given settings answer) number
+        (text_of text answer) begin.event
 
   -- It runs a plan, of which so many points are made.
-  pub record IsRunning (b : ℕ) (answer : Answer) (points : ℕ) (begin : Entry) (between : List Entry) (t : ℕ) : Type 0 where
+  pub record IsRunning (b : ℕ) (answer : Answer) (points : ℕ) (begin : Entry) (between : List Entry)
+      (t : ℕ) : Type 0 where
     pub open_is : IsOpen b answer begin
     pub planned : Planned
     pub course : Runs (course_of given settings answer) planned
@@ -59,8 +62,10 @@ module _ (given : Given) (settings : Settings) (number last : ℕ) (texts : List
   Tail (within b answer due) (begin ∷ between) t =
       IsOpen b answer begin × Between given number b (course_of given settings answer) between t due
   Tail (running b answer points) (begin ∷ between) t = IsRunning b answer points begin between t
-  Tail gone (entry ∷ []) t = (texts ≢ []) × (t ≡ last + 1) × IsOwnEntry given t entry × IsGone number entry.event
-  Tail closed (entry ∷ []) t = (texts ≡ []) × (t ≡ last + 1) × IsOwnEntry given t entry × (entry.event ≡ Close)
+  Tail gone (entry ∷ []) t =
+      (texts ≢ []) × (t ≡ last + 1) × IsOwnEntry given t entry × IsGone number entry.event
+  Tail closed (entry ∷ []) t =
+      (texts ≡ []) × (t ≡ last + 1) × IsOwnEntry given t entry × (entry.event ≡ Close)
   Tail closed (entry ∷ close ∷ []) t =
       (texts ≢ []) × (t ≡ last + 2) × IsOwnEntry given (last + 1) entry × IsGone number entry.event ×
       IsOwnEntry given t close × (close.event ≡ Close)
@@ -76,8 +81,10 @@ IsTold given journals (End number (outcome.Shown kind desk begin report) steps) 
     IsAnswered (terms_of given desk) (journals desk) given.session number report begin
 IsTold given journals event = ⊤
 
--- After turn t a session has made exactly these entries, where preparation gave these answers to the statements that have ended.
-pub record IsSoFar (given : Given) (journals : ℕ → List Entry) (answers : List Answer) (mine : List Entry) (t : ℕ) (now : Now) : Type 0 where
+-- After turn t a session has made exactly these entries, where preparation gave these answers to
+-- the statements that have ended.
+pub record IsSoFar (given : Given) (journals : ℕ → List Entry) (answers : List Answer)
+    (mine : List Entry) (t : ℕ) (now : Now) : Type 0 where
   pub by : All (λ entry. entry.actor ≡ given.session) mine
   pub numbered : map (λ entry. entry.seq) mine ≡ range_with_len 1 (length mine)
   pub told : All (λ entry. IsTold given journals entry.event) mine

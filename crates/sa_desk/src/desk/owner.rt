@@ -37,7 +37,8 @@ impl Desk {
         requires { MayBegin self.old stamp (Event.Begin statement text version plan tables) statement
             version plan tables }
         ensures answer { result ≡ begin_answer (state self.old).doomed }
-        ensures desk { self.new ≡ after_begin self.old stamp (Event.Begin statement text version plan tables)
+        ensures desk { self.new
+            ≡ after_begin self.old stamp (Event.Begin statement text version plan tables)
             statement }
         ensures sound { IsSound self.new }
     {

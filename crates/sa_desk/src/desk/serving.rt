@@ -31,9 +31,11 @@ pub fn serve(
     requires journal { vec_len journal.old + length queue.now ≤ vec_capacity journal.old }
     requires replies { array_vec_len replies.old + length queue.now ≤ 16 }
     requires numbers { server.stamp.seq + length queue.now ≤ 2 ^ 32 }
-    ensures journal { journal.new.items ≡ journal.old.items ++ served_by_server server report.now queue.now }
+    ensures journal { journal.new.items ≡ journal.old.items
+        ++ served_by_server server report.now queue.now }
     ensures capacity { vec_capacity journal.new ≡ vec_capacity journal.old }
-    ensures replies { replies.new.items ≡ replies.old.items ++ answers_with report.now server.begin queue.now }
+    ensures replies { replies.new.items ≡ replies.old.items
+        ++ answers_with report.now server.begin queue.now }
 {
     for (index, request) in queue.iter().enumerate() {
         let event = Event::Served {

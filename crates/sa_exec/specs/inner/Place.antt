@@ -26,7 +26,8 @@ only_level plan = slice_index_or plan.levels 0 no_level
 -- the items of one row
 abbrev pub one_row : RunData → List Item → Level → ℕ → List RunItem
 one_row tables select level row =
-    row_items 0 (passes tables level.conditions (with_row level [] row)) (emit_row (selected tables select (with_row level [] row)) ∷ [])
+    row_items 0 (passes tables level.conditions (with_row level [] row))
+    (emit_row (selected tables select (with_row level [] row)) ∷ [])
 
 -- the items of this row and of those behind it
 abbrev pub rows_left : RunData → List Item → Level → ℕ → List RunItem
@@ -43,7 +44,8 @@ items_left tables select level (Emit row) =
 -- the first of them
 abbrev pub item_at : RunData → List Item → Level → Place → RunItem
 item_at tables select level Open = open_level 0
-item_at tables select level (Read row) = read_row 0 (passes tables level.conditions (with_row level [] row))
+item_at tables select level (Read row) =
+    read_row 0 (passes tables level.conditions (with_row level [] row))
 item_at tables select level (Emit row) = emit_row (selected tables select (with_row level [] row))
 
 abbrev pub next_item : RunData → Plan → Place → RunItem
@@ -56,7 +58,8 @@ place_after_read row passed = if passed then Emit row else Read (row + 1)
 -- where it is behind the next item
 abbrev pub place_after : RunData → Level → Place → Place
 place_after tables level Open = Read 0
-place_after tables level (Read row) = place_after_read row (passes tables level.conditions (with_row level [] row))
+place_after tables level (Read row) =
+    place_after_read row (passes tables level.conditions (with_row level [] row))
 place_after tables level (Emit row) = Read (row + 1)
 
 -- what it has counted there

@@ -29,9 +29,11 @@ progress_of run = record {
 }
 
 -- After so many items the level's state and the rows are these.
-pub record IsAt (tables : RunData) (plan : Plan) (steps : ℕ) (state : LevelState) (rows : List (List Value)) : Type 0 where
+pub record IsAt (tables : RunData) (plan : Plan) (steps : ℕ) (state : LevelState)
+    (rows : List (List Value)) : Type 0 where
   pub within : steps ≤ length (items plan tables)
-  pub left : drop steps (items plan tables) ≡ items_left tables plan.select (only_level plan) state.place
+  pub left : drop steps (items plan tables)
+      ≡ items_left tables plan.select (only_level plan) state.place
   pub placed : IsPlaced state.count state.place
   pub count : state.count ≡ row_count tables (only_level plan).table
   pub counters : state.counters ≡ counters_of (take steps (items plan tables)) 0

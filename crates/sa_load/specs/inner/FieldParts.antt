@@ -14,7 +14,9 @@ is_within limit minus magnitude = if minus then nat_le magnitude limit else nat_
 abbrev pub number_causes : (column limit : ℕ) → List ℕ → List LoadCause
 number_causes column limit field =
     told (not (is_utf8 field)) NotUtf8
-    ++ (if is_number field then told (not (is_within limit (starts_with_minus field) (digits_value 10 (digits field)))) (OutOfRange column) else NotNumber ∷ [])
+    ++ (if is_number field
+    then told (not (is_within limit (starts_with_minus field) (digits_value 10 (digits field))))
+    (OutOfRange column) else NotNumber ∷ [])
 
 abbrev pub text_causes : (column characters : ℕ) → List ℕ → List LoadCause
 text_causes column characters field =

@@ -11,11 +11,14 @@ use Rattle.sa_parser.specs.Fault.{fault_place, IsUnsupported}
 abbrev pub IsFirstTooDeep : List Token → Option ℕ → Type 0
 IsFirstTooDeep tokens None = StaysFlat tokens
 IsFirstTooDeep tokens (Some place) =
-    (place < length tokens) × StaysFlat (take place tokens) × (most_levels < depth_of (take (place + 1) tokens))
+    (place < length tokens) × StaysFlat (take place tokens)
+    × (most_levels < depth_of (take (place + 1) tokens))
 
 -- The fault has the kind and the place of what is faulty.
 abbrev pub TellsFault : {A : Type 0} → Form A → List Token → List Token → ParseFault → Type 0
-TellsFault Is before behind (Syntax place) = (IsUnsupported Is before behind → ⊥) × (place ≡ fault_place before behind)
-TellsFault Is before behind (NotSupported place) = IsUnsupported Is before behind × (place ≡ fault_place before behind)
+TellsFault Is before behind (Syntax place) =
+    (IsUnsupported Is before behind → ⊥) × (place ≡ fault_place before behind)
+TellsFault Is before behind (NotSupported place) =
+    IsUnsupported Is before behind × (place ≡ fault_place before behind)
 TellsFault Is before behind (TooDeep place) = ⊥
 TellsFault Is before behind OutOfMemory = ⊥

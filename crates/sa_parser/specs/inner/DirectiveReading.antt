@@ -17,19 +17,24 @@ abbrev pub placed_number : Reader NumberTree
 placed_number = one placed_number_in
 
 unfoldable pub numbers : Reader (List NumberTree)
-numbers = chain ((λ first. first ∷ []) <$> placed_number) sees_number (λ found next. found ++ next ∷ []) placed_number
+numbers = chain ((λ first. first ∷ []) <$> placed_number) sees_number
+    (λ found next. found ++ next ∷ []) placed_number
 
 unfoldable pub load : Reader Directive
 load =
-    (λ _ _ table _ bytes. said.Load table bytes) <$> word (codes "LOAD") <*> word (codes "DATA") <*> name <*> word (codes "BYTES") <*> placed_number
+    (λ _ _ table _ bytes. said.Load table bytes) <$> word (codes "LOAD") <*> word
+    (codes "DATA") <*> name <*> word (codes "BYTES") <*> placed_number
 
 unfoldable pub schedule : Reader Directive
 schedule = (λ _ numbers. said.Schedule numbers) <$> word (codes "SCHEDULE") <*> numbers
 
 unfoldable pub directive_read : Reader Directive
 directive_read =
-    either (sees_word (codes "QUANTUM")) ((λ _ number. said.Quantum number) <$> word (codes "QUANTUM") <*> placed_number)
-    (either (sees_word (codes "TURNS")) ((λ _ number. said.Turns number) <$> word (codes "TURNS") <*> placed_number)
+    either (sees_word (codes "QUANTUM"))
+    ((λ _ number. said.Quantum number) <$> word (codes "QUANTUM") <*> placed_number)
+    (either (sees_word (codes "TURNS"))
+    ((λ _ number. said.Turns number) <$> word (codes "TURNS") <*> placed_number)
     (either (sees_word (codes "LOAD")) load
-    (either (sees_word (codes "SESSION")) ((λ _ number. said.Session number) <$> word (codes "SESSION") <*> placed_number)
+    (either (sees_word (codes "SESSION"))
+    ((λ _ number. said.Session number) <$> word (codes "SESSION") <*> placed_number)
     schedule)))

@@ -12,17 +12,21 @@ use Rattle.sa_parser.specs.Tree.{atom_in, column_tree, aggregate_of, aggregate_i
 use Rattle.sa_parser.specs.inner.Reading.{Reader, one, either, perhaps, chain, refuse, ◌<$>◌, ◌<*>◌, word, sign, name, sees_word, sees_sign, sees_name, brackets, commas}
 
 unfoldable pub column : Reader ExprTree
-column = column_tree <$> name <*> perhaps (sees_sign signs.Dot) ((λ _ name. name) <$> sign signs.Dot <*> name)
+column = column_tree <$> name <*> perhaps (sees_sign signs.Dot)
+    ((λ _ name. name) <$> sign signs.Dot <*> name)
 
 -- whether an aggregate's name comes next, and a bracket behind it
 unfoldable pub sees_call : List Token → Bool
-sees_call (first ∷ second ∷ rest) = (is_word (codes "COUNT") first.kind || is_some (aggregate_of first.kind)) && is_sign signs.LeftParen second.kind
+sees_call (first ∷ second ∷ rest) =
+    (is_word (codes "COUNT") first.kind || is_some (aggregate_of first.kind))
+    && is_sign signs.LeftParen second.kind
 sees_call tokens = false
 
 unfoldable pub call : (Rule → Reader ExprTree) → Reader ExprTree
 call inner =
     either (sees_word (codes "COUNT"))
-    (count_tree <$> word (codes "COUNT") <*> brackets (either (sees_sign signs.Star) ((λ _. None) <$> sign signs.Star) (Some <$> inner rule.Sum)))
+    (count_tree <$> word (codes "COUNT") <*> brackets
+    (either (sees_sign signs.Star) ((λ _. None) <$> sign signs.Star) (Some <$> inner rule.Sum)))
     (aggregate_tree <$> one aggregate_in <*> brackets (inner rule.Sum))
 
 unfoldable pub primary : (Rule → Reader ExprTree) → Reader ExprTree
@@ -33,17 +37,21 @@ primary inner =
 unfoldable pub factor : (Rule → Reader ExprTree) → Reader ExprTree
 factor inner =
     either (sees_sign signs.Minus) (minus_tree <$> sign signs.Minus <*> inner rule.Factor)
-    (either (sees_sign signs.Plus) (plus_tree <$> sign signs.Plus <*> inner rule.Factor) (primary inner))
+    (either (sees_sign signs.Plus) (plus_tree <$> sign signs.Plus <*> inner rule.Factor)
+    (primary inner))
 
 unfoldable pub term : (Rule → Reader ExprTree) → Reader ExprTree
-term inner = chain (factor inner) (sees_sign signs.Star) times_tree ((λ place next. (place, next)) <$> sign signs.Star <*> factor inner)
+term inner = chain (factor inner)
+    (sees_sign signs.Star) times_tree
+    ((λ place next. (place, next)) <$> sign signs.Star <*> factor inner)
 
 -- whether a plus or a minus comes next
 abbrev pub sees_additive : List Token → Bool
 sees_additive tokens = sees_sign signs.Plus tokens || sees_sign signs.Minus tokens
 
 unfoldable pub sum : (Rule → Reader ExprTree) → Reader ExprTree
-sum inner = chain (term inner) sees_additive sum_tree ((λ sign next. (sign, next)) <$> one additive_in <*> term inner)
+sum inner = chain (term inner) sees_additive sum_tree
+    ((λ sign next. (sign, next)) <$> one additive_in <*> term inner)
 
 unfoldable pub sees_comparison : List Token → Bool
 sees_comparison [] = false
@@ -53,10 +61,12 @@ unfoldable pub compare_part : (Rule → Reader ExprTree) → Reader PlacedTail
 compare_part inner = compare_tail <$> one comparison_in <*> sum inner
 
 unfoldable pub null_part : Reader PlacedTail
-null_part = null_tail <$> word (codes "IS") <*> perhaps (sees_word (codes "NOT")) (word (codes "NOT")) <*> word (codes "NULL")
+null_part = null_tail <$> word (codes "IS") <*> perhaps (sees_word (codes "NOT"))
+    (word (codes "NOT")) <*> word (codes "NULL")
 
 unfoldable pub between_part : (Rule → Reader ExprTree) → Reader PlacedTail
-between_part inner = between_tail <$> word (codes "BETWEEN") <*> sum inner <*> word (codes "AND") <*> sum inner
+between_part inner =
+    between_tail <$> word (codes "BETWEEN") <*> sum inner <*> word (codes "AND") <*> sum inner
 
 unfoldable pub among_part : (Rule → Reader ExprTree) → Reader PlacedTail
 among_part inner = among_tail <$> word (codes "IN") <*> brackets (commas (sum inner))
@@ -67,7 +77,8 @@ range_part inner =
     <*> either (sees_word (codes "BETWEEN")) (between_part inner) (among_part inner)
 
 unfoldable pub predicate_part : (Rule → Reader ExprTree) → Reader PlacedTail
-predicate_part inner = either sees_comparison (compare_part inner) (either (sees_word (codes "IS")) null_part (range_part inner))
+predicate_part inner = either sees_comparison (compare_part inner)
+    (either (sees_word (codes "IS")) null_part (range_part inner))
 
 -- whether a predicate goes on
 abbrev pub sees_predicate : List Token → Bool
@@ -79,7 +90,8 @@ unfoldable pub predicate : (Rule → Reader ExprTree) → Reader ExprTree
 predicate inner = predicate_tree <$> sum inner <*> perhaps sees_predicate (predicate_part inner)
 
 unfoldable pub negation : (Rule → Reader ExprTree) → Reader ExprTree
-negation inner = either (sees_word (codes "NOT")) (not_tree <$> word (codes "NOT") <*> inner rule.Negation) (predicate inner)
+negation inner = either (sees_word (codes "NOT"))
+    (not_tree <$> word (codes "NOT") <*> inner rule.Negation) (predicate inner)
 
 -- AND in either spelling
 abbrev pub sees_and : List Token → Bool
@@ -90,7 +102,8 @@ and_mark = either (sees_word (codes "AND")) (word (codes "AND")) (sign signs.And
 
 unfoldable pub conjunction : (Rule → Reader ExprTree) → Reader ExprTree
 conjunction inner =
-    and_tree <$> chain (Alone <$> negation inner) sees_and with_member ((λ place next. (place, next)) <$> and_mark <*> negation inner)
+    and_tree <$> chain (Alone <$> negation inner) sees_and with_member
+    ((λ place next. (place, next)) <$> and_mark <*> negation inner)
 
 unfoldable pub disjunction : (Rule → Reader ExprTree) → Reader ExprTree
 disjunction inner =

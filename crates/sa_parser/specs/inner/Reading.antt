@@ -1,5 +1,5 @@
--- How tokens are read, from left to right. A reading gives a value and the tokens behind it, or how many
--- tokens are left from the first one on that it can't read.
+-- How tokens are read, from left to right. A reading gives a value and the tokens behind it, or how
+-- many tokens are left from the first one on that it can't read.
 use Rattle.std.specs.Prelude.{ℕ, zero, suc, Bool, false, is_some, List, [], ◌∷◌, ◌++◌, length, if◌then◌else◌, Option, Some, None, Result, Ok, Err}
 use Rattle.sa_lexer.specs.declared.token.Token.{Token}
 use Rattle.sa_lexer.specs.declared.sign.Sign.{Sign}
@@ -39,7 +39,8 @@ made make read tokens = and_then (read tokens) (λ part. given (make part))
 
 -- a reading and then another one
 unfoldable pub then_read : {A B : Type 0} → Reader (A → B) → Reader A → Reader B
-then_read first second tokens = and_then (first tokens) (λ make rest. and_then (second rest) (λ part. given (make part)))
+then_read first second tokens =
+    and_then (first tokens) (λ make rest. and_then (second rest) (λ part. given (make part)))
 
 infixl 11 ◌<$>◌
 abbrev pub ◌<$>◌ : {A B : Type 0} → (A → B) → Reader A → Reader B
@@ -55,17 +56,22 @@ either looks first second tokens = if looks tokens then first tokens else second
 
 -- a reading or nothing
 unfoldable pub perhaps : {A : Type 0} → (List Token → Bool) → Reader A → Reader (Option A)
-perhaps looks read tokens = if looks tokens then and_then (read tokens) (λ part. given (Some part)) else Ok (None, tokens)
+perhaps looks read tokens =
+    if looks tokens then and_then (read tokens) (λ part. given (Some part)) else Ok (None, tokens)
 
 -- As many further parts as there are. The number bounds them: each takes a token at least.
 unfoldable pub more : {A B : Type 0} → (List Token → Bool) → (A → B → A) → Reader B → ℕ → A → Reader A
 more looks take read zero so_far tokens = Ok (so_far, tokens)
 more looks take read (suc turns) so_far tokens =
-    if looks tokens then and_then (read tokens) (λ part. more looks take read turns (take so_far part)) else Ok (so_far, tokens)
+    if looks tokens
+    then and_then (read tokens) (λ part. more looks take read turns (take so_far part))
+    else Ok (so_far, tokens)
 
 -- a beginning and further parts
-unfoldable pub chain : {A B : Type 0} → Reader A → (List Token → Bool) → (A → B → A) → Reader B → Reader A
-chain first looks take next tokens = and_then (first tokens) (λ begun rest. more looks take next (length rest) begun rest)
+unfoldable pub chain : {A B : Type 0} → Reader A → (List Token → Bool) → (A → B → A) → Reader B
+    → Reader A
+chain first looks take next tokens =
+    and_then (first tokens) (λ begun rest. more looks take next (length rest) begun rest)
 
 -- a reading with the place of its first token
 unfoldable pub placed : {A B : Type 0} → (ℕ → A → B) → Reader A → Reader B
@@ -108,7 +114,8 @@ brackets read = (λ _ value _. value) <$> sign signs.LeftParen <*> read <*> sign
 -- one or more readings, with commas between them
 abbrev pub commas : {A : Type 0} → Reader A → Reader (List A)
 commas read =
-    chain ((λ first. first ∷ []) <$> read) (sees_sign signs.Comma) (λ found next. found ++ next ∷ []) ((λ _ next. next) <$> sign signs.Comma <*> read)
+    chain ((λ first. first ∷ []) <$> read) (sees_sign signs.Comma)
+    (λ found next. found ++ next ∷ []) ((λ _ next. next) <$> sign signs.Comma <*> read)
 
 -- a reading behind a word
 abbrev pub after : {A : Type 0} → List ℕ → Reader A → Reader A

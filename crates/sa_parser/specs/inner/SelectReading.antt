@@ -23,7 +23,8 @@ alias = perhaps sees_alias (either (sees_word (codes "AS")) (after (codes "AS") 
 
 -- whether a name, a dot and a star come next
 unfoldable pub sees_table_star : List Token → Bool
-sees_table_star (first ∷ second ∷ third ∷ rest) = is_some (name_of first.kind) && (is_sign signs.Dot second.kind && is_sign signs.Star third.kind)
+sees_table_star (first ∷ second ∷ third ∷ rest) =
+    is_some (name_of first.kind) && (is_sign signs.Dot second.kind && is_sign signs.Star third.kind)
 sees_table_star tokens = false
 
 unfoldable pub item : Reader ExprTree → Reader ItemTree
@@ -43,7 +44,9 @@ abbrev pub sees_join : List Token → Bool
 sees_join tokens = sees_side tokens || sees_word (codes "JOIN") tokens
 
 unfoldable pub join : Reader ℕ
-join = (λ _ join. join) <$> perhaps sees_side (either (sees_word (codes "INNER")) (word (codes "INNER")) (word (codes "CROSS"))) <*> word (codes "JOIN")
+join = (λ _ join. join) <$> perhaps sees_side
+    (either (sees_word (codes "INNER")) (word (codes "INNER")) (word (codes "CROSS"))) <*> word
+    (codes "JOIN")
 
 unfoldable pub joined : Reader ExprTree → Reader (List TableTree)
 joined expr =
@@ -51,7 +54,8 @@ joined expr =
     (joined_table <$> join <*> table <*> perhaps (sees_word (codes "ON")) (after (codes "ON") expr))
 
 unfoldable pub tables : Reader ExprTree → Reader (List TableTree)
-tables expr = chain (joined expr) (sees_sign signs.Comma) (λ tables next. tables ++ next) ((λ _ next. next) <$> sign signs.Comma <*> joined expr)
+tables expr = chain (joined expr) (sees_sign signs.Comma) (λ tables next. tables ++ next)
+    ((λ _ next. next) <$> sign signs.Comma <*> joined expr)
 
 -- whether ALL or DISTINCT comes next
 abbrev pub sees_distinct : List Token → Bool
@@ -60,7 +64,8 @@ sees_distinct tokens = sees_word (codes "ALL") tokens || sees_word (codes "DISTI
 unfoldable pub distinct : Reader Bool
 distinct =
     or_else false <$> perhaps sees_distinct
-    (either (sees_word (codes "ALL")) ((λ _. false) <$> word (codes "ALL")) ((λ _. true) <$> word (codes "DISTINCT")))
+    (either (sees_word (codes "ALL")) ((λ _. false) <$> word (codes "ALL"))
+    ((λ _. true) <$> word (codes "DISTINCT")))
 
 unfoldable pub where_part : Reader ExprTree → Reader (Option ExprTree)
 where_part expr = perhaps (sees_word (codes "WHERE")) (after (codes "WHERE") expr)
@@ -68,10 +73,12 @@ where_part expr = perhaps (sees_word (codes "WHERE")) (after (codes "WHERE") exp
 unfoldable pub group : Reader ExprTree → Reader (List GroupTree)
 group expr =
     listed <$> perhaps (sees_word (codes "GROUP"))
-    ((λ _ _ items. items) <$> word (codes "GROUP") <*> word (codes "BY") <*> commas (placed group_item expr))
+    ((λ _ _ items. items) <$> word (codes "GROUP") <*> word (codes "BY") <*> commas
+    (placed group_item expr))
 
 unfoldable pub having : Reader ExprTree → Reader (Option (ℕ × ExprTree))
-having expr = perhaps (sees_word (codes "HAVING")) ((λ place value. (place, value)) <$> word (codes "HAVING") <*> expr)
+having expr = perhaps (sees_word (codes "HAVING"))
+    ((λ place value. (place, value)) <$> word (codes "HAVING") <*> expr)
 
 -- whether ASC or DESC comes next
 abbrev pub sees_direction : List Token → Bool
@@ -80,7 +87,8 @@ sees_direction tokens = sees_word (codes "ASC") tokens || sees_word (codes "DESC
 unfoldable pub direction : Reader Bool
 direction =
     or_else false <$> perhaps sees_direction
-    (either (sees_word (codes "ASC")) ((λ _. false) <$> word (codes "ASC")) ((λ _. true) <$> word (codes "DESC")))
+    (either (sees_word (codes "ASC")) ((λ _. false) <$> word (codes "ASC"))
+    ((λ _. true) <$> word (codes "DESC")))
 
 unfoldable pub order_item_read : Reader ExprTree → Reader OrderTree
 order_item_read expr = placed order_item ((λ value down. (value, down)) <$> expr <*> direction)
@@ -88,7 +96,8 @@ order_item_read expr = placed order_item ((λ value down. (value, down)) <$> exp
 unfoldable pub order : Reader ExprTree → Reader (List OrderTree)
 order expr =
     listed <$> perhaps (sees_word (codes "ORDER"))
-    ((λ _ _ items. items) <$> word (codes "ORDER") <*> word (codes "BY") <*> commas (order_item_read expr))
+    ((λ _ _ items. items) <$> word (codes "ORDER") <*> word (codes "BY") <*> commas
+    (order_item_read expr))
 
 -- whether a second number of a LIMIT comes next
 abbrev pub sees_second : List Token → Bool
@@ -96,15 +105,18 @@ sees_second tokens = sees_sign signs.Comma tokens || sees_word (codes "OFFSET") 
 
 unfoldable pub second_limit : Reader (Bool × ℕ)
 second_limit =
-    either (sees_sign signs.Comma) ((λ _ second. (true, second)) <$> sign signs.Comma <*> number_below (2 ^ 64))
+    either (sees_sign signs.Comma)
+    ((λ _ second. (true, second)) <$> sign signs.Comma <*> number_below (2 ^ 64))
     ((λ _ second. (false, second)) <$> word (codes "OFFSET") <*> number_below (2 ^ 64))
 
 unfoldable pub limit : Reader (Option Limits)
 limit =
     perhaps (sees_word (codes "LIMIT"))
-    ((λ _ found. found) <$> word (codes "LIMIT") <*> (limits <$> number_below (2 ^ 64) <*> perhaps sees_second second_limit))
+    ((λ _ found. found) <$> word (codes "LIMIT") <*>
+    (limits <$> number_below (2 ^ 64) <*> perhaps sees_second second_limit))
 
 unfoldable pub select : Reader ExprTree → Reader SelectTree
 select expr =
-    select_tree <$> word (codes "SELECT") <*> distinct <*> commas (item expr) <*> word (codes "FROM") <*> tables expr
+    select_tree <$> word (codes "SELECT") <*> distinct <*> commas (item expr) <*> word
+    (codes "FROM") <*> tables expr
     <*> where_part expr <*> group expr <*> having expr <*> order expr <*> limit

@@ -22,7 +22,10 @@ pub(crate) fn condition(
     word: &str,
     cursor: &mut Cursor<'_>,
 ) -> Result<Option<Boxed<ExprTree>>, ReadFault>
-    ensures { Reads (reading.perhaps (reading.sees_word word.now) (reading.after word.now (nested_read levels rules.Expression)) cursor.old) result cursor.new }
+    ensures { Reads
+        (reading.perhaps (reading.sees_word word.now)
+        (reading.after word.now (nested_read levels rules.Expression)) cursor.old) result
+        cursor.new }
 {
     if cursor.sees_word(word) {
         cursor.word(word)?;

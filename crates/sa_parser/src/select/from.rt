@@ -52,7 +52,12 @@ fn joined_table(
     levels: usize,
     cursor: &mut Cursor<'_>,
 ) -> Result<TableTree, ReadFault>
-    ensures { Reads (reading.then_read (reading.then_read (reading.made trees.joined_table select.join) select.table) (reading.perhaps (reading.sees_word (codes "ON")) (reading.after (codes "ON") (nested_read levels rules.Expression))) cursor.old) result cursor.new }
+    ensures { Reads
+        (reading.then_read
+        (reading.then_read (reading.made trees.joined_table select.join) select.table)
+        (reading.perhaps (reading.sees_word (codes "ON"))
+        (reading.after (codes "ON") (nested_read levels rules.Expression))) cursor.old) result
+        cursor.new }
 {
     join(cursor)?;
     let table = table(alloc, cursor)?;

@@ -59,7 +59,9 @@ pub(crate) fn insert(alloc: Global, cursor: &mut Cursor<'_>) -> Result<InsertTre
 /// The columns that the values are for, in brackets, if they are written.
 #[tactic(auto, unfolding(crate::specs::inner::Reading::perhaps, crate::specs::inner::Reading::made, crate::specs::inner::Reading::then_read))]
 fn columns(alloc: Global, cursor: &mut Cursor<'_>) -> Result<Option<NameTrees>, ReadFault>
-    ensures { Reads (reading.perhaps (reading.sees_sign Sign.LeftParen) (reading.brackets (reading.commas reading.name)) cursor.old) result cursor.new }
+    ensures { Reads
+        (reading.perhaps (reading.sees_sign Sign.LeftParen)
+        (reading.brackets (reading.commas reading.name)) cursor.old) result cursor.new }
 {
     if !cursor.sees_sign(Sign::LeftParen) {
         return Ok(None);

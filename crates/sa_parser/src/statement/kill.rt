@@ -11,7 +11,9 @@ use sa_ast::{KillKind, Statement};
 /// What is ended, if it is written.
 #[tactic(auto, unfolding(crate::specs::inner::StatementReading::kill_kind, crate::specs::inner::Reading::perhaps, crate::specs::inner::Reading::either, crate::specs::inner::Reading::made))]
 fn kill_kind(cursor: &mut Cursor<'_>) -> Result<Option<KillKind>, ReadFault>
-    ensures { Reads (reading.perhaps statements.sees_kill_kind statements.kill_kind cursor.old) result cursor.new }
+    ensures { Reads
+        (reading.perhaps statements.sees_kill_kind statements.kill_kind cursor.old) result
+        cursor.new }
 {
     if cursor.sees_word("CONNECTION") {
         cursor.word("CONNECTION")?;

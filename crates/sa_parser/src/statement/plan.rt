@@ -33,7 +33,8 @@ pub(crate) fn explain(
     levels: usize,
     cursor: &mut Cursor<'_>,
 ) -> Result<Statement, ReadFault>
-    ensures { Reads (reading.explain (nested_read levels rules.Expression) cursor.old) result cursor.new }
+    ensures { Reads
+        (reading.explain (nested_read levels rules.Expression) cursor.old) result cursor.new }
 {
     cursor.word("EXPLAIN")?;
     format(cursor)?;
@@ -63,7 +64,8 @@ pub(crate) fn analyze(
     levels: usize,
     cursor: &mut Cursor<'_>,
 ) -> Result<Statement, ReadFault>
-    ensures { Reads (reading.analyze (nested_read levels rules.Expression) cursor.old) result cursor.new }
+    ensures { Reads
+        (reading.analyze (nested_read levels rules.Expression) cursor.old) result cursor.new }
 {
     cursor.word("ANALYZE")?;
     format(cursor)?;

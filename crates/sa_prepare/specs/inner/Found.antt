@@ -18,11 +18,13 @@ form_at found = record { table = found.table.now; filter = comparison_at found.f
 
 -- the number of a column among these
 abbrev pub column_number_in : List ColumnDef → List ℕ → ℕ
-column_number_in columns name = position_or_len (λ (column : ColumnDef). same_name column.name name) columns
+column_number_in columns name =
+    position_or_len (λ (column : ColumnDef). same_name column.name name) columns
 
 -- the table and the column that a SELECT names, if it can be planned over them
 abbrev pub planned_at : List Table → FirstForm → Option Place
 planned_at tables form =
     let table = table_number tables form.table in
     let column = column_number (table_at tables table) form.filter.column in
-    if is_planned tables table column form then Some (record { table = table; column = column }) else None
+    if is_planned tables table column form then Some (record { table = table; column = column })
+    else None

@@ -15,7 +15,8 @@ FindsLineEnd bytes None = HasNoLineEnd bytes
 FindsLineEnd bytes (Some len) = (len ≤ length bytes) × IsLineEnd (take len bytes)
 
 -- A block of so many bytes stands here, behind a piece that its `;` ends and a line end.
-pub record StandsIn (script : List ℕ) (piece : Piece) (count : NumberTree) (block : Block) : Type 0 where
+pub record StandsIn (script : List ℕ) (piece : Piece) (count : NumberTree)
+    (block : Block) : Type 0 where
   pub len : ℕ
   pub closed : piece.closed ≡ true
   pub start_is : block.start ≡ place_behind piece + len

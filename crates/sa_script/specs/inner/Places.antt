@@ -16,7 +16,8 @@ moved by token = record token { start = token.start + by; end = token.end + by }
 
 -- Each token, so many bytes farther on, begins and ends below a bound.
 abbrev pub EndBelow : (bound by : ℕ) → List Token → Type 0
-EndBelow bound by tokens = All (λ (token : Token). (token.start + by < bound) × (token.end + by < bound)) tokens
+EndBelow bound by tokens =
+    All (λ (token : Token). (token.start + by < bound) × (token.end + by < bound)) tokens
 
 -- A fault of the lexer stands, so many bytes farther on, below a bound.
 abbrev pub StandsBelow : (bound by : ℕ) → LexFault → Type 0

@@ -61,7 +61,8 @@ row_in (Listed names places) values = if length values == names then values_at v
 
 -- where the value of each column stands in a tuple
 abbrev pub places_in : List NameTree → List ColumnDef → List ℕ
-places_in names columns = map (λ (column : ColumnDef). position_or_len (is_listed column.name) names) columns
+places_in names columns =
+    map (λ (column : ColumnDef). position_or_len (is_listed column.name) names) columns
 
 abbrev pub layout_of : TableDef → Option (List NameTree) → Layout
 layout_of def None = Whole
@@ -77,7 +78,8 @@ TellsRow faults row.OutOfMemory = Unit {0}
 TellsRow faults fault = slice_get faults 0 ≡ Some fault
 
 -- Of these tuples, the first whose row can't be put in.
-pub record IsBadTuple (table : Table) (tuples : List TupleTree) (rows : List (List Value)) (fault : Fault) : Type 0 where
+pub record IsBadTuple (table : Table) (tuples : List TupleTree) (rows : List (List Value))
+    (fault : Fault) : Type 0 where
   pub index : ℕ
   pub tuple : TupleTree
   pub told : RowFault

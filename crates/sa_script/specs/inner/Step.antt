@@ -15,12 +15,14 @@ use Rattle.sa_script.specs.Says.{SaysAs, FailsAs, SetsUp, CantSetUp, LeadTo}
 -- A piece says this; the next one begins so many bytes behind its `;`.
 abbrev pub SaysThis : Said → Piece → List ℕ → Said → (skipped : ℕ) → Type 0
 SaysThis said piece behind next skipped =
-    (first : FirstToken) × IsFirst piece.text first × SaysAs (kind_at said.stage piece first) said piece behind next skipped
+    (first : FirstToken) × IsFirst piece.text first
+    × SaysAs (kind_at said.stage piece first) said piece behind next skipped
 
 -- A piece has this fault first.
 abbrev pub FailsWith : Said → Piece → List ℕ → Fault → Type 0
 FailsWith said piece behind fault =
-    (first : FirstToken) × IsFirst piece.text first × FailsAs (kind_at said.stage piece first) said piece behind fault
+    (first : FirstToken) × IsFirst piece.text first
+    × FailsAs (kind_at said.stage piece first) said piece behind fault
 
 -- A piece is read as a statement that makes these tables of those.
 abbrev pub SetsUpAs : List Table → Piece → List Table → Type 0
@@ -28,7 +30,8 @@ SetsUpAs tables piece after = (tree : Statement) × ReadsAs IsSetup piece tree �
 
 -- A piece isn't read as a statement that sets tables up, or has a fault as one.
 abbrev pub CantSetUpAs : List Table → Piece → Fault → Type 0
-CantSetUpAs tables piece fault = CantRead IsSetup piece fault ⊎ ((tree : Statement) × ReadsAs IsSetup piece tree × CantSetUp tables tree fault)
+CantSetUpAs tables piece fault = CantRead IsSetup piece fault
+    ⊎ ((tree : Statement) × ReadsAs IsSetup piece tree × CantSetUp tables tree fault)
 
 -- Pieces from the beginning of the text on lead to this place, and say this.
 abbrev pub LeadsTo : (text : List ℕ) → Said → (to : ℕ) → Type 0

@@ -20,7 +20,8 @@ value_digest (Text text) = Some (text_digest text)
 -- the digest of the values from here on
 abbrev pub digest_from : ℕ → List Value → Option ℕ
 digest_from digest [] = Some digest
-digest_from digest (value ∷ values) = option_and_then (λ number. digest_from (mixed digest number) values) (value_digest value)
+digest_from digest (value ∷ values) =
+    option_and_then (λ number. digest_from (mixed digest number) values) (value_digest value)
 
 abbrev pub digest_of : List Value → Option ℕ
 digest_of = digest_from 0

@@ -14,7 +14,8 @@ bound_before index (Some digest) = bound_in index digest
 
 abbrev pub bound_after : Index → ℕ → Option ℕ → ℕ → ℕ
 bound_after index row None digest = bound_in index digest
-bound_after index row (Some added) digest = if nat_eq added digest then row + 1 else bound_in index digest
+bound_after index row (Some added) digest =
+    if nat_eq added digest then row + 1 else bound_in index digest
 
 -- A row is put at the end, under a digest or under none.
 pub record AddsDigest (old new : Index) (row : ℕ) (digest : Option ℕ) : Type 0 where

@@ -27,22 +27,28 @@ held_row columns row = map (λ pair. held_in pair.0 pair.1) (zip columns row)
 -- There is room for a row.
 pub record TakesRow (store : Store) (row : List Value) : Type 0 where
   pub wide : length row ≡ vec_len store.columns
-  pub each : (k : ℕ) (column : Column) → k < vec_len store.columns → CanTake (slice_index_or store.columns.items k column) (value_in row k)
+  pub each : (k : ℕ) (column : Column) → k < vec_len store.columns
+      → CanTake (slice_index_or store.columns.items k column) (value_in row k)
 
 -- The rows are as they were, whatever room there is.
 pub record SameStore (old new : Store) : Type 0 where
   pub count : new.count ≡ old.count
   pub wide : vec_len new.columns ≡ vec_len old.columns
-  pub each : (k : ℕ) (column : Column) → k < vec_len old.columns → SameColumn (slice_index_or old.columns.items k column) (slice_index_or new.columns.items k column)
+  pub each : (k : ℕ) (column : Column) → k < vec_len old.columns
+      → SameColumn (slice_index_or old.columns.items k column)
+      (slice_index_or new.columns.items k column)
 
 -- Each column still holds what it could hold.
 abbrev pub SameKinds : Store → Store → Type 0
-SameKinds old new = (k : ℕ) (column : Column) (kind : ColumnKind) → k < vec_len old.columns → HoldsKind kind (slice_index_or old.columns.items k column) → HoldsKind kind (slice_index_or new.columns.items k column)
+SameKinds old new = (k : ℕ) (column : Column) (kind : ColumnKind) → k < vec_len old.columns
+    → HoldsKind kind (slice_index_or old.columns.items k column)
+    → HoldsKind kind (slice_index_or new.columns.items k column)
 
 -- Each column holds values of its kind.
 pub record HoldKinds (defs : List ColumnDef) (columns : List Column) : Type 0 where
   pub wide : length columns ≡ length defs
-  pub each : (k : ℕ) (def : ColumnDef) (column : Column) → k < length defs → HoldsKind (slice_index_or defs k def).kind (slice_index_or columns k column)
+  pub each : (k : ℕ) (def : ColumnDef) (column : Column) → k < length defs
+      → HoldsKind (slice_index_or defs k def).kind (slice_index_or columns k column)
 
 -- A column has a value more, and holds what it could hold.
 pub record TakesValue (old new : Column) (value : Value) : Type 0 where

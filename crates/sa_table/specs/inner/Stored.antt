@@ -12,7 +12,8 @@ use Rattle.sa_table.specs.inner.Keys.{AreIndexed}
 abbrev pub table_in : Inside → Table
 table_in table = record { def = table.def; rows = rows_in table.store }
 
--- The table is sound, its columns are filled with values of their kinds, and its unique keys are indexed.
+-- The table is sound, its columns are filled with values of their kinds, and its unique keys are
+-- indexed.
 pub record Keeps (def : TableDef) (store : Store) (indexes : List Index) : Type 0 where
   pub sound : IsSoundTable (record { def = def; rows = rows_in store })
   pub kinds : HoldKinds def.columns store.columns.items

@@ -11,17 +11,20 @@ use Rattle.sa_desk.specs.declared.entry.Event.{Event}
 use Rattle.sa_desk.specs.declared.outcome.Outcome.{Outcome}
 use Rattle.sa_transcript.specs.Transcript.{CanTellEvent, CanTellOutcome}
 
-pub record OutcomeIsTold (names : List TableNames) (journals : List (List Entry)) (result : Outcome) : Type 0 where
+pub record OutcomeIsTold (names : List TableNames) (journals : List (List Entry))
+    (result : Outcome) : Type 0 where
   pub tables : List Table
   pub names_are : names ≡ names_of tables
   pub outcome : CanTellOutcome tables journals result
 
-pub record EventIsTold (names : List TableNames) (journals : List (List Entry)) (happened : Event) : Type 0 where
+pub record EventIsTold (names : List TableNames) (journals : List (List Entry))
+    (happened : Event) : Type 0 where
   pub tables : List Table
   pub names_are : names ≡ names_of tables
   pub event : CanTellEvent tables journals happened
 
-pub record JournalIsTold (names : List TableNames) (journals : List (List Entry)) (journal : List Entry) : Type 0 where
+pub record JournalIsTold (names : List TableNames) (journals : List (List Entry))
+    (journal : List Entry) : Type 0 where
   pub tables : List Table
   pub names_are : names ≡ names_of tables
   pub events : All (λ (entry : Entry). CanTellEvent tables journals entry.event) journal

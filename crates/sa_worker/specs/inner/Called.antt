@@ -28,13 +28,19 @@ stamp_for world session = next_stamp world (me_of (view_of session))
 pub record MayCall (world : World) (session : Session) (stage : StageFields) : Type 0 where
   pub active : IsActive (stage_of stage)
   pub allowed : world.may_call (desk_for session stage) session.given.session ≡ true
-  pub may : May (world.contents (desk_for session stage)) (stamp_for world session) session.number (call_for session stage)
+  pub may : May (world.contents (desk_for session stage))
+      (stamp_for world session) session.number (call_for session stage)
   pub holds : HoldsAt (view_at session stage) (stage_of stage)
   pub tied : StageTied (rest_of session) session.change stage
 
 -- It was made, and the session goes on as it was answered.
-pub record HasCalled (before after : World) (session later : Session) (stage : StageFields) : Type 0 where
-  pub next : view_of later ≡ next_at (view_of session) (stage_of stage) (before.contents (desk_for session stage)) (stamp_for before session)
+pub record HasCalled (before after : World) (session later : Session)
+    (stage : StageFields) : Type 0 where
+  pub next : view_of later
+      ≡ next_at (view_of session) (stage_of stage) (before.contents (desk_for session stage))
+      (stamp_for before session)
   pub call : IsCall before after (desk_for session stage) session.given.session
-      (made (before.contents (desk_for session stage)) (stamp_for before session) session.number (call_for session stage))
-      (left (before.contents (desk_for session stage)) (stamp_for before session) session.number (call_for session stage))
+      (made (before.contents (desk_for session stage))
+      (stamp_for before session) session.number (call_for session stage))
+      (left (before.contents (desk_for session stage))
+      (stamp_for before session) session.number (call_for session stage))

@@ -32,7 +32,12 @@ abbrev pub traced_of : Traced → List ℕ × Planned
 traced_of traced = (traced.text, traced.planned)
 
 abbrev pub settings_of : SettingsFields → course.Settings
-settings_of settings = record { limit = settings.limit; tracing = settings.tracing; traced = option_map traced_of settings.traced }
+settings_of settings =
+    record {
+      limit = settings.limit;
+      tracing = settings.tracing;
+      traced = option_map traced_of settings.traced;
+    }
 
 -- the settings after a change, where the statement ended so
 abbrev pub changed : course.Settings → Change → Ended → course.Settings

@@ -19,20 +19,29 @@ stop_for fault.OutOfMemory = OutOfMemory
 -- Why the step after those of the run can't be made.
 abbrev pub Breaks : Progress → StepStop → Type 0
 Breaks run RowLimit = run.steps ≡ run.row_limit
-Breaks run TooManyRows = (run.steps < run.row_limit) × (most_rows < length (kept run.plan run.data_read (run.steps + 1)))
-Breaks run OutOfMemory = IsClear run.row_limit run.plan run.data_read (run.steps + 1) × EmitsAt run.plan run.data_read run.steps
+Breaks run TooManyRows =
+    (run.steps < run.row_limit) × (most_rows < length (kept run.plan run.data_read (run.steps + 1)))
+Breaks run OutOfMemory = IsClear run.row_limit run.plan run.data_read (run.steps + 1)
+    × EmitsAt run.plan run.data_read run.steps
 Breaks run Killed = ⊥
 
 -- Where the run stands, which has made so many steps before.
 abbrev pub Stands : (before : ℕ) → Progress → Pause → Type 0
-Stands before run Full = (run.steps ≡ before + run.quantum) × (run.steps < length (items run.plan run.data_read)) × (run.failed ≡ false)
+Stands before run Full = (run.steps ≡ before + run.quantum)
+    × (run.steps < length (items run.plan run.data_read)) × (run.failed ≡ false)
 Stands before run Finished = IsFinished run
 Stands before run (Failed stop) =
-    (run.steps < length (items run.plan run.data_read)) × (run.steps < before + run.quantum) × Breaks run stop
+    (run.steps < length (items run.plan run.data_read)) × (run.steps < before + run.quantum)
+    × Breaks run stop
 
 -- Steps are made of the run, a quantum at most, and then they pause.
 pub record MakesSteps (before after : Progress) (pause : Pause) : Type 0 where
-  pub same : after ≡ record before { steps = after.steps; since_looked = after.since_looked; failed = after.failed }
+  pub same : after
+      ≡ record before {
+        steps = after.steps;
+        since_looked = after.since_looked;
+        failed = after.failed;
+      }
   pub least : before.steps ≤ after.steps
   pub most : after.steps ≤ before.steps + before.quantum
   pub clear : IsClear before.row_limit before.plan before.data_read after.steps
@@ -40,6 +49,7 @@ pub record MakesSteps (before after : Progress) (pause : Pause) : Type 0 where
 
 -- So many steps are made, and items are left.
 pub record IsUnderWay (before : Progress) (made : ℕ) (run : Progress) : Type 0 where
-  pub same : run ≡ record before { steps = before.steps + made; since_looked = before.since_looked + made }
+  pub same : run
+      ≡ record before { steps = before.steps + made; since_looked = before.since_looked + made }
   pub more : run.steps < length (items run.plan run.data_read)
   pub clear : IsClear run.row_limit run.plan run.data_read run.steps

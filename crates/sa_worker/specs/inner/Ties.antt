@@ -22,7 +22,9 @@ use Rattle.sa_worker.specs.inner.Fields.{changed, planned_of, first_of, rest_of}
 -- The change is what the End makes of the settings, where this outcome is due.
 abbrev pub Changes : View → Change → Outcome → Type 0
 Changes view change due =
-    (ended : Ended) → course.settings_after view.settings view.answer (shown due ended) ≡ changed view.settings change ended
+    (ended : Ended)
+    → course.settings_after view.settings view.answer (shown due ended)
+    ≡ changed view.settings change ended
 
 -- It is so whatever is due.
 abbrev pub IsSteady : View → Change → Type 0
@@ -42,16 +44,19 @@ FirstTied view change course = IsSteady view change
 -- What the Begin shows beside the text, and what follows it.
 pub record IsMade (view : View) (made : Made) : Type 0 where
   pub plan : made.plan ≡ plan_in (course.course_of view.given view.settings view.answer)
-  pub tables : made.tables ≡ tables_in view.given (course.course_of view.given view.settings view.answer)
+  pub tables : made.tables
+      ≡ tables_in view.given (course.course_of view.given view.settings view.answer)
   pub first : first_of made.course ≡ begins view (course.course_of view.given view.settings view.answer)
   pub tied : FirstTied view made.change made.course
 
 -- The course is a run of this plan, made for this.
-pub record IsStarted (view : View) (text : List ℕ) (planned : Planned) (goal : Goal) (made : Made) : Type 0 where
+pub record IsStarted (view : View) (text : List ℕ) (planned : Planned) (goal : Goal)
+    (made : Made) : Type 0 where
   pub plan : made.plan ≡ Some planned.plan
   pub tables : made.tables ≡ Some view.given.tables
   pub course_is : made.course ≡ Runs (first_run view planned) goal
-  pub change : (ended : Ended) → changed view.settings made.change ended ≡ course.trace view.settings text planned
+  pub change : (ended : Ended)
+      → changed view.settings made.change ended ≡ course.trace view.settings text planned
 
 pub record IsOpening (view : View) (opening : Opening) : Type 0 where
   pub text : opening.text ≡ course.text_of (text_at view) view.answer
@@ -78,5 +83,6 @@ pub record IsOn (session : Session) : Type 0 where
   pub steady : IsSteady (rest_of session) session.change
 
 pub record IsTied (session : Session) : Type 0 where
-  pub texts : session.statements.items ≡ drop (first_left session.number session.stage) session.texts.value
+  pub texts : session.statements.items
+      ≡ drop (first_left session.number session.stage) session.texts.value
   pub stage : StageTied (rest_of session) session.change session.stage
