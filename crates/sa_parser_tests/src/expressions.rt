@@ -1,6 +1,6 @@
 //! Expressions, as the condition of a query.
 
-use crate::lines::is_canonized;
+use crate::checks::is_canonized;
 use std::alloc::Global;
 use std::process::Abort;
 use std::test::Fail;

@@ -1,11 +1,11 @@
 //! The places of the parts of a query.
 
-use crate::lines::fault_line;
 use sa_ast::{
     GroupTrees, ItemNode, ItemTree, ItemTrees, OrderTrees, SelectTree, Statement, TableTrees,
 };
 use sa_lexer::tokens;
 use sa_parser::parse;
+use sa_parser_fixtures::fault_line;
 use std::alloc::Global;
 use std::test::Fail;
 

@@ -1,6 +1,6 @@
 //! The statements that set tables up.
 
-use crate::setup_lines::sets_up;
+use crate::checks::sets_up;
 use std::test::Fail;
 
 #[test]

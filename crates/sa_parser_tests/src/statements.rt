@@ -1,6 +1,6 @@
 //! The statements of a session.
 
-use crate::lines::is_canonized;
+use crate::checks::is_canonized;
 use std::test::Fail;
 
 #[test]

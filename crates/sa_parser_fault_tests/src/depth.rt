@@ -1,7 +1,7 @@
 //! How deep a statement may go.
 
-use crate::lines::{is_read, repeated, session_line};
-use crate::setup_lines::sets_up;
+use crate::checks::{is_read, sets_up};
+use sa_parser_fixtures::{repeated, session_line};
 use std::alloc::Global;
 use std::process::Abort;
 use std::test::Fail;

@@ -1,6 +1,6 @@
 //! Statements that set tables up, as lines that a table can hold.
 
-use crate::lines::{fault_line, marked};
+use crate::lines::fault_line;
 use sa_ast::{
     ColumnTree, CreateTree, InsertTree, KeyTree, KindTree, NameTrees, Statement, TupleTree,
 };
@@ -8,7 +8,6 @@ use sa_lexer::tokens;
 use sa_parser::parse_setup;
 use sa_value::{Texts, Value, ValueRef};
 use std::alloc::Global;
-use std::process::Abort;
 use std::test::Fail;
 
 /// The texts with commas between them.
@@ -108,35 +107,11 @@ fn insert_line(alloc: Global, tree: &InsertTree) -> Result<String, Fail> {
 }
 
 /// What a statement that sets tables up is read as.
-fn setup_line(alloc: Global, text: &str) -> Result<String, Fail> {
+pub fn setup_line(alloc: Global, text: &str) -> Result<String, Fail> {
     match parse_setup(alloc, &tokens(alloc, text)?) {
         Ok(Statement::Create(tree)) => create_line(alloc, &tree),
         Ok(Statement::Insert(tree)) => insert_line(alloc, &tree),
         Ok(_) => Err(Fail::new("a statement of a session")),
         Err(fault) => fault_line(alloc, fault),
     }
-}
-
-/// The text sets up this, or has this fault.
-pub(crate) fn sets_up<R: Abort + Alloc<A = Global>>(
-    rt: &R,
-    name: &str,
-    text: &str,
-    wanted: &str,
-) -> Result<(), Fail> {
-    let found = setup_line(rt.alloc(), text)?;
-    assert_eq!(rt; found.as_str(), wanted, "{name}: {text:?}");
-    Ok(())
-}
-
-/// The fault of this kind stands at the mark of the text.
-pub(crate) fn is_faulty_setup<R: Abort + Alloc<A = Global>>(
-    rt: &R,
-    name: &str,
-    text: &str,
-    kind: &str,
-) -> Result<(), Fail> {
-    let (text, place) = marked(rt.alloc(), text)?;
-    let wanted = format!(in rt.alloc(); "{kind} at {place}")?;
-    sets_up(rt, name, text.as_str(), wanted.as_str())
 }

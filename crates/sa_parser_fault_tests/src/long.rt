@@ -1,6 +1,6 @@
 //! Long statements.
 
-use crate::lines::{repeated, session_line};
+use sa_parser_fixtures::{repeated, session_line};
 use std::alloc::Global;
 use std::process::Abort;
 use std::test::Fail;

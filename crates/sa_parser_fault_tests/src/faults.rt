@@ -1,7 +1,7 @@
 //! The first fault of a statement, at its place.
 
-use crate::lines::{is_read, marked};
-use crate::setup_lines::is_faulty_setup;
+use crate::checks::{is_faulty_setup, is_read};
+use sa_parser_fixtures::marked;
 use std::alloc::Global;
 use std::process::Abort;
 use std::test::Fail;

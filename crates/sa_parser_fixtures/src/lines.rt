@@ -6,11 +6,10 @@ use sa_parser::{ParseFault, parse};
 use sa_print::statement_text;
 use sa_value::OutOfMemory;
 use std::alloc::Global;
-use std::process::Abort;
 use std::test::Fail;
 
 /// A fault in a line: its kind and its place.
-pub(crate) fn fault_line(alloc: Global, fault: ParseFault) -> Result<String, Fail> {
+pub fn fault_line(alloc: Global, fault: ParseFault) -> Result<String, Fail> {
     Ok(match fault {
         ParseFault::Syntax { place } => format!(in alloc; "Syntax at {place}")?,
         ParseFault::NotSupported { place } => format!(in alloc; "NotSupported at {place}")?,
@@ -28,38 +27,15 @@ fn canonical_line(alloc: Global, tree: &Statement) -> Result<String, Fail> {
 }
 
 /// What a session's statement is read as: its canonical text, or its fault.
-pub(crate) fn session_line(alloc: Global, text: &str) -> Result<String, Fail> {
+pub fn session_line(alloc: Global, text: &str) -> Result<String, Fail> {
     match parse(alloc, &tokens(alloc, text)?) {
         Ok(tree) => canonical_line(alloc, &tree),
         Err(fault) => fault_line(alloc, fault),
     }
 }
 
-/// The text is read as this.
-pub(crate) fn is_read<R: Abort + Alloc<A = Global>>(
-    rt: &R,
-    name: &str,
-    text: &str,
-    wanted: &str,
-) -> Result<(), Fail> {
-    let found = session_line(rt.alloc(), text)?;
-    assert_eq!(rt; found.as_str(), wanted, "{name}: {text:?}");
-    Ok(())
-}
-
-/// The text is a statement, and what it is read as is read as itself.
-pub(crate) fn is_canonized<R: Abort + Alloc<A = Global>>(
-    rt: &R,
-    name: &str,
-    text: &str,
-    canonical: &str,
-) -> Result<(), Fail> {
-    is_read(rt, name, text, canonical)?;
-    is_read(rt, name, canonical, canonical)
-}
-
 /// The text without its mark `^`, and where that stands.
-pub(crate) fn marked(alloc: Global, text: &str) -> Result<(String, usize), Fail> {
+pub fn marked(alloc: Global, text: &str) -> Result<(String, usize), Fail> {
     let Some((before, behind)) = text.split_once('^') else {
         return Err(Fail::new("no mark"));
     };
@@ -67,7 +43,7 @@ pub(crate) fn marked(alloc: Global, text: &str) -> Result<(String, usize), Fail>
 }
 
 /// A text that is `again` so many times, between `first` and `last`.
-pub(crate) fn repeated(
+pub fn repeated(
     alloc: Global,
     first: &str,
     again: &str,

@@ -1,9 +1,9 @@
 //! The directives of a script.
 
-use crate::lines::{fault_line, marked, repeated};
 use sa_ast::{Directive, NumberTree, NumberTrees};
 use sa_lexer::tokens;
 use sa_parser::parse_directive;
+use sa_parser_fixtures::{fault_line, marked, repeated};
 use std::alloc::Global;
 use std::process::Abort;
 use std::test::Fail;
