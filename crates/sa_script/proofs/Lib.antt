@@ -12,5 +12,6 @@ pub mod Telling
 pub mod Schedules
 pub mod Stepping
 pub mod Leading
+pub mod LimitLemmas
 pub mod lexing
 pub mod one_answer

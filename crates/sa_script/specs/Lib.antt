@@ -9,4 +9,5 @@ pub mod Load
 pub mod Direct
 pub mod Says
 pub mod Script
+pub mod Limits
 pub mod inner

@@ -9,6 +9,7 @@ mod fault;
 mod insert;
 mod kind;
 mod layout;
+mod limits;
 mod load;
 mod named;
 mod piece;
@@ -22,6 +23,7 @@ mod statement;
 mod unique;
 
 pub use fault::{ScriptFault, ScriptKind};
+pub use limits::scripts_keep_limits;
 pub use reading::read_script;
 pub use script::{Schedule, Script, SessionScript, SessionScripts};
 pub use unique::text_has_one_answer;

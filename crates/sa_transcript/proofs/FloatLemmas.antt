@@ -13,6 +13,7 @@ use Rattle.sa_plan.specs.declared.names.TableNames.{TableNames}
 use Rattle.sa_plan.specs.declared.plan.Plan.{Plan}
 use Rattle.sa_explain.specs.Document.{count, document}
 use Rattle.sa_explain.proofs.Exact.{Exact, exact-put, exact-items, document_is_exact}
+use Rattle.sa_script.specs.Fault.{Fault}
 use Rattle.sa_desk.specs.declared.entry.Entry.{Entry}
 use Rattle.sa_desk.specs.declared.entry.Event.{Event}
 use Rattle.sa_desk.specs.declared.entry.Event.TheVariants.{Begin, Queued, Refused, Served, Taken, Spent, Withdrawn, KillSent, Waited, WaitSpent, End, Gone, Close}
@@ -22,6 +23,7 @@ use Rattle.sa_transcript.specs.Names.{lex_name, resolve_name, ask_name, kill_nam
 use Rattle.sa_transcript.specs.Outcome.{trace_data, plan_begun, shown_report, shown_data, refusal_members, outcome_data}
 use Rattle.sa_transcript.specs.Line.{has_plan, counters_data, report_data, event_name, with_event, entry_data}
 use Rattle.sa_transcript.specs.Transcript.{value_data}
+use Rattle.sa_transcript.specs.FaultLine.{kind_name, with_row, fault_data}
 use Rattle.sa_transcript.specs.inner.Told.{OutcomeIsTold, EventIsTold}
 
 -- members, and that none of them has a float
@@ -154,3 +156,12 @@ entry_is_exact names journals entry told =
     (and_text (codes "event") (event_name entry.event)
     (and_count (codes "seq") entry.seq
     (and_count (codes "turn") entry.turn none)))))
+
+exact-row : (line : Option ℕ) → (sure : Sure) → Exact (with_row line sure.0)
+exact-row None sure = sure.1
+exact-row (Some number) sure = (and_count (codes "line") number sure).1
+
+pub fault_is_exact : (fault : Fault) → has_float (fault_data fault) ≡ false
+fault_is_exact fault =
+    let placed : Sure = and_count (codes "place") fault.place none in
+    (and_text (codes "fault") (kind_name fault.kind) (with_row fault.line placed.0, exact-row fault.line placed)).1

@@ -1,2 +1,3 @@
 mod FirstFound
 mod FloatLemmas
+mod Worked

@@ -1,11 +1,14 @@
-ghost use Rattle.std.specs.Prelude.{◌≡◌, OnOk, codes};
+ghost use Rattle.std.specs.Prelude.{◌≡◌, List, OnOk, codes};
 ghost use Rattle.serde_json.specs.Data.{boolean, string};
 ghost use Rattle.serde_json.specs.Data.{put as with_member};
 ghost use Rattle.serde_json.specs.View.{view, members_view};
 ghost use Rattle.sa_explain.specs.Document.{count};
+ghost use Rattle.sa_plan.specs.declared.names.TableNames.{TableNames};
+ghost use Rattle.sa_desk.specs.declared.entry.Entry.{Entry};
 ghost use Rattle.sa_transcript.specs.Line.{of_statement, report_data, with_event};
 ghost use Rattle.sa_transcript.specs.Names.{ask_name, kill_name, why_name};
 ghost use Rattle.sa_transcript.specs.Outcome.{outcome_data};
+ghost use Rattle.sa_transcript.specs.inner.Asked.{IsOfRequest, IsOfSession};
 ghost use Rattle.sa_transcript.specs.inner.Told.{EventIsTold, OutcomeIsTold};
 
 use crate::line::report_value;
@@ -16,7 +19,7 @@ use sa_ast::AskKind;
 use sa_count::Report;
 use sa_desk::{Entries, Event, Outcome};
 use sa_plan::Names;
-use sa_value::OutOfMemory;
+use sa_value::{OutOfMemory, Text};
 use serde_json::{Value as Json, put};
 use std::alloc::Global;
 
@@ -33,20 +36,37 @@ pub fn put_event(
         ≡ with_event names.now journals.now event.now (members_view members.old.entries)) }
 {
     match event {
-        Event::Begin {
+        Event::End {
             statement,
-            text,
-            version,
-            plan,
-            ..
-        } => put_begin(
-            alloc,
-            members,
-            *statement,
-            text.as_str(),
-            *version,
-            plan.is_some(),
-        ),
+            outcome,
+            steps,
+        } => {
+            let outcome = outcome_value(alloc, names, journals, outcome)?;
+            put_end(alloc, members, *statement, outcome, *steps)
+        }
+        Event::Queued { .. }
+        | Event::Refused { .. }
+        | Event::Served { .. }
+        | Event::Taken { .. }
+        | Event::Spent { .. }
+        | Event::Withdrawn { .. } => put_of_request(alloc, members, event),
+        Event::Begin { .. }
+        | Event::KillSent { .. }
+        | Event::Waited { .. }
+        | Event::WaitSpent { .. }
+        | Event::Gone { .. }
+        | Event::Close => put_of_session(alloc, members, event),
+    }
+}
+
+/// Puts what an event of a request tells.
+fn put_of_request(alloc: Global, members: &mut Members, event: &Event) -> Result<(), OutOfMemory>
+    requires { IsOfRequest event.now }
+    ensures { OnOk result ((names : List TableNames) (journals : List (List Entry)) →
+        members_view members.new.entries
+        ≡ with_event names journals event.now (members_view members.old.entries)) }
+{
+    match event {
         Event::Queued {
             statement,
             kind,
@@ -62,12 +82,32 @@ pub fn put_event(
             request,
             report,
         } => put_served(alloc, members, *asker, *request, report),
-        Event::Taken { statement } | Event::Withdrawn { statement } | Event::Gone { statement } =>
-            put_statement(alloc, members, *statement),
+        Event::Taken { statement } | Event::Withdrawn { statement } => {
+            put_statement(alloc, members, *statement)
+        }
         Event::Spent { statement, turns } => {
             put_count(alloc, members, "turns", *turns)?;
             put_statement(alloc, members, *statement)
         }
+        _ => unreachable!(),
+    }
+}
+
+/// Puts what an event of a session's own statement tells, its end apart.
+fn put_of_session(alloc: Global, members: &mut Members, event: &Event) -> Result<(), OutOfMemory>
+    requires { IsOfSession event.now }
+    ensures { OnOk result ((names : List TableNames) (journals : List (List Entry)) →
+        members_view members.new.entries
+        ≡ with_event names journals event.now (members_view members.old.entries)) }
+{
+    match event {
+        Event::Begin {
+            statement,
+            text,
+            version,
+            plan,
+            ..
+        } => put_begin(alloc, members, *statement, text, *version, plan.is_some()),
         Event::KillSent { statement, kind } => {
             put_text(alloc, members, "kind", kill_name(*kind))?;
             put_statement(alloc, members, *statement)
@@ -81,15 +121,9 @@ pub fn put_event(
             steps,
             turns,
         } => put_wait_spent(alloc, members, *statement, *steps, *turns),
-        Event::End {
-            statement,
-            outcome,
-            steps,
-        } => {
-            let outcome = outcome_value(alloc, names, journals, outcome)?;
-            put_end(alloc, members, *statement, outcome, *steps)
-        }
+        Event::Gone { statement } => put_statement(alloc, members, *statement),
         Event::Close => Ok(()),
+        _ => unreachable!(),
     }
 }
 
@@ -106,7 +140,7 @@ fn put_begin(
     alloc: Global,
     members: &mut Members,
     statement: u32,
-    text: &str,
+    text: &Text,
     version: u64,
     has_plan: bool,
 ) -> Result<(), OutOfMemory>
@@ -117,7 +151,7 @@ fn put_begin(
         (with_member (codes "version") (count version) (members_view members.old.entries))))) }
 {
     put_count(alloc, members, "version", version)?;
-    put_text(alloc, members, "text", text)?;
+    put_text(alloc, members, "text", text.as_str())?;
     put(members, alloc, "enabled", Json::Bool(has_plan))?;
     put_statement(alloc, members, statement)
 }

@@ -4,6 +4,7 @@
 #![tactic(auto)]
 
 mod event;
+mod fault;
 mod line;
 mod names;
 mod object;
@@ -11,4 +12,5 @@ mod outcome;
 mod row;
 mod transcript;
 
+pub use fault::fault_line;
 pub use transcript::render;
