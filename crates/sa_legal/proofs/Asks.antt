@@ -1,8 +1,8 @@
 -- What a whole statement notes at a desk: one request at most, of its own number, which is refused or ends.
-use Rattle.std.proofs.Common.{◌≡◌, ℕ, ◌+◌, ◌<◌, ◌≤◌, ◌==◌, Bool, true, false, if◌then◌else◌, List, [], ◌∷◌, ◌++◌, All, Option, Some, None, slice_index_or, append-nil, refl, sym, subst, ap, ◌∙◌, arith}
-use Rattle.std.specs.Prelude.{⊤, filter_map}
+use Rattle.std.proofs.Common.{◌≡◌, ℕ, ◌==◌, Bool, true, false, if◌then◌else◌, List, [], ◌∷◌, ◌++◌, All, Option, Some, None, slice_index_or, append-nil, refl, sym, subst, ap, ◌∙◌}
+use Rattle.std.specs.Prelude.{⊤}
 use Rattle.std.specs.List.{cons_option}
-use Rattle.std.proofs.lemmas.List.Elements.{All-head, All-tail, filter_map-append}
+use Rattle.std.proofs.lemmas.List.Elements.{All-head, All-tail}
 use Rattle.sa_ast.specs.declared.kind.AskKind.{AskKind}
 use Rattle.sa_ast.specs.declared.kind.KillKind.{KillKind}
 use Rattle.sa_desk.specs.declared.entry.Entry.{Entry}
@@ -13,7 +13,7 @@ use Rattle.sa_desk.specs.declared.outcome.Outcome.{Outcome}
 use Rattle.sa_desk.specs.World.{standing_on}
 use Rattle.sa_desk.specs.program.Course.{Given, Answer, text_of, Settings, Course, says, shows, waits, kills, runs, course_of}
 use Rattle.sa_desk.specs.program.Between.{Due, goes_on, ends, Leaves, AfterQueued, AfterAsk, Sees, Hits, Between}
-use Rattle.sa_desk.specs.program.Statement.{BeginsAs, IsServing, AreServed, EndsAs, IsStatement}
+use Rattle.sa_desk.specs.program.Statement.{BeginsAs, IsServing, EndsAs, IsStatement}
 use Rattle.sa_legal.specs.Requests.{Note, refuses, queues, takes, leaves}
 use Rattle.sa_legal.proofs.Talks.{own_note, own_notes}
 
@@ -42,7 +42,7 @@ more_of None first last whole same = same
 
 pub notes_append : (desk : ℕ) (first last : List Entry) → notes_at desk (first ++ last) ≡ notes_at desk first ++ notes_at desk last
 notes_append desk [] last = refl
-notes_append desk (entry ∷ rest) last = 
+notes_append desk (entry ∷ rest) last =
     more_of (note_here (entry.desk == desk) entry.event) (notes_at desk rest) (notes_at desk last) (notes_at desk (rest ++ last)) (notes_append desk rest last)
 
 -- no request, or one of this number

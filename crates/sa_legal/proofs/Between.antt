@@ -12,7 +12,7 @@ use Rattle.sa_desk.specs.declared.entry.RefusedWhy.TheVariants as why
 use Rattle.sa_desk.specs.declared.outcome.Outcome.{Outcome}
 use Rattle.sa_desk.specs.declared.outcome.Outcome.TheVariants as outcome
 use Rattle.sa_desk.specs.law.On.{IsWithin}
-use Rattle.sa_desk.specs.program.Course.{Given, Course, says, shows, waits, kills, runs}
+use Rattle.sa_desk.specs.program.Course.{Given, Course, says, shows, waits, kills}
 use Rattle.sa_desk.specs.program.Between.{Due, goes_on, ends, refused_for, Leaves, AfterQueued, AfterAsk, Sees, StillWaits, Hits, Between}
 
 -- The entry is neither a Begin nor an End.

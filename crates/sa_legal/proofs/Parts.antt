@@ -1,19 +1,16 @@
 -- Each Begin and each End of a session is that of one of its statements.
-use Rattle.std.proofs.Common.{◌≡◌, ℕ, ◌+◌, ◌-◌, ◌<◌, ◌≤◌, List, [], ◌∷◌, ◌++◌, append_assoc, length, length-append, Option, Some, slice_get, All, refl, sym, subst, ap, ◌∙◌, arith}
+use Rattle.std.proofs.Common.{◌≡◌, ℕ, ◌-◌, ◌<◌, ◌≤◌, List, [], ◌∷◌, ◌++◌, Some, slice_get, All}
 use Rattle.std.specs.Prelude.{⊤}
 use Rattle.std.proofs.lemmas.List.Elements.{All-nil, All-cons, All-append, All-weaker, All-same}
-use Rattle.sa_count.specs.declared.report.Report.{Report}
 use Rattle.sa_desk.specs.declared.entry.Entry.{Entry}
 use Rattle.sa_desk.specs.declared.entry.Event.{Event}
-use Rattle.sa_desk.specs.declared.entry.Event.TheVariants.{Begin, Served, End, Gone, Close}
+use Rattle.sa_desk.specs.declared.entry.Event.TheVariants.{Begin, Served, End}
 use Rattle.sa_desk.specs.declared.outcome.Outcome.{Outcome}
 use Rattle.sa_desk.specs.law.On.{IsWithin}
-use Rattle.sa_desk.specs.Legal.{Sessions, given_of, HasProgram}
-use Rattle.sa_desk.specs.program.Course.{Given, Answer, text_of, Settings, settings_after, at_first, Course, says, shows, waits, kills, runs, course_of}
+use Rattle.sa_desk.specs.program.Course.{Given, Answer, text_of, Settings, Course, says, shows, waits, kills, runs, course_of}
 use Rattle.sa_desk.specs.program.Between.{ends}
-use Rattle.sa_desk.specs.program.Prepares.{Answers, IsAnswer, AreAnswers}
-use Rattle.sa_desk.specs.program.Statement.{IsOwnEntry, BeginsAs, IsServing, AreServed, EndsAs, IsStatement, Statements}
-use Rattle.sa_desk.specs.program.SoFar.{IsGone, Tail, closed}
+use Rattle.sa_desk.specs.program.Prepares.{Answers, IsAnswer}
+use Rattle.sa_desk.specs.program.Statement.{BeginsAs, IsServing, EndsAs, IsStatement}
 use Rattle.sa_legal.proofs.Between.{IsInside, between_events}
 
 -- The session has a statement of this number, with these settings, and preparation answered to its text.

@@ -1,7 +1,6 @@
 -- A course with a run is that of a statement that was prepared so.
-use Rattle.std.proofs.Common.{◌≡◌, ℕ, ◌+◌, ◌-◌, ◌≤◌, ◌&&◌, Bool, true, false, if◌then◌else◌, List, Some, slice_get, sym, subst}
+use Rattle.std.proofs.Common.{◌≡◌, ℕ, ◌+◌, ◌-◌, ◌≤◌, ◌&&◌, Bool, true, false, if◌then◌else◌, List, Some, slice_get}
 use Rattle.std.specs.Prelude.{⊤, nat_lt}
-use Rattle.sa_plan.specs.declared.prepared.Work.{Work}
 use Rattle.sa_plan.specs.declared.prepared.Work.TheVariants as work
 use Rattle.sa_desk.specs.declared.outcome.Outcome.{Outcome}
 use Rattle.sa_desk.specs.declared.outcome.Outcome.TheVariants as outcome

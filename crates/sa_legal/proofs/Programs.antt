@@ -1,9 +1,9 @@
 -- Each entry of a session's program is a part of it.
-use Rattle.std.proofs.Common.{◌≡◌, ℕ, ◌+◌, ◌-◌, ◌≤◌, List, [], ◌∷◌, ◌++◌, append_assoc, length, length-append, Option, Some, slice_get, All, refl, sym, subst, ap, ◌∙◌, arith}
+use Rattle.std.proofs.Common.{◌≡◌, ℕ, ◌+◌, ◌-◌, List, [], ◌∷◌, ◌++◌, append_assoc, length, length-append, Some, slice_get, All, refl, sym, subst, ap, ◌∙◌, arith}
 use Rattle.std.proofs.lemmas.List.Elements.{All-nil, All-cons, All-append, All-same}
 use Rattle.sa_desk.specs.declared.entry.Entry.{Entry}
 use Rattle.sa_desk.specs.declared.entry.Event.{Event}
-use Rattle.sa_desk.specs.declared.entry.Event.TheVariants.{Gone, Close}
+use Rattle.sa_desk.specs.declared.entry.Event.TheVariants.{Gone}
 use Rattle.sa_desk.specs.Legal.{Sessions, given_of, HasProgram}
 use Rattle.sa_desk.specs.program.Course.{Given, Answer, Settings, settings_after, at_first}
 use Rattle.sa_desk.specs.program.Prepares.{Answers, AreAnswers}

@@ -2,17 +2,16 @@
 use Rattle.std.proofs.Common.{◌≡◌, ℕ, ◌+◌, ◌<◌, ◌≤◌, List, [], ◌∷◌, ◌++◌, length, append-nil, ◌==◌, None, refl, sym, subst, ap, ◌∙◌, arith}
 use Rattle.sa_desk.specs.declared.entry.Entry.{Entry}
 use Rattle.sa_desk.specs.declared.entry.Event.{Event}
-use Rattle.sa_desk.specs.declared.entry.Event.TheVariants.{Gone, Close}
-use Rattle.sa_desk.specs.World.{made_by, standing_on}
+use Rattle.sa_desk.specs.declared.entry.Event.TheVariants.{Gone}
 use Rattle.sa_desk.specs.Legal.{Sessions, given_of, journal_at, HasProgram, IsLegal}
-use Rattle.sa_desk.specs.law.Talk.{nothing_open, words, IsTalk}
+use Rattle.sa_desk.specs.law.Talk.{nothing_open, IsTalk}
 use Rattle.sa_desk.specs.program.Course.{Given, Answer, Settings, settings_after, at_first}
 use Rattle.sa_desk.specs.program.Prepares.{Answers}
 use Rattle.sa_desk.specs.program.Statement.{Statements}
 use Rattle.sa_desk.specs.program.SoFar.{terms_of, IsGone, Tail, closed}
 use Rattle.sa_desk.proofs.laws.Talk.{requests_in_turn}
 use Rattle.sa_legal.specs.Requests.{Note, refuses, queues, takes, leaves, notes_of, AreRequests}
-use Rattle.sa_legal.proofs.Talks.{own_note, own_notes, own_in, words_in, AreOwn, joined, words_noted, own_is_made}
+use Rattle.sa_legal.proofs.Talks.{own_note, own_notes, own_in, AreOwn, joined, words_noted, own_is_made}
 use Rattle.sa_legal.proofs.Asks.{IsOneRequest, notes_at, notes_standing, notes_append, silent, statement_one}
 
 later : (last next : ℕ) (notes : List Note) → last ≤ next → AreOwn next notes → AreOwn last notes

@@ -1,8 +1,7 @@
 -- The rows of an End are those of its SELECT.
-use Rattle.std.proofs.Common.{◌≡◌, ℕ, ◌≤◌, ◌⊎◌, Bool, true, false, List, ◌∷◌, ◌++◌, length, All, inl, inr, sym, subst, ◌∙◌}
+use Rattle.std.proofs.Common.{◌≡◌, ℕ, ◌≤◌, ◌⊎◌, true, false, List, ◌∷◌, ◌++◌, length, All, inl, inr, sym, subst, ◌∙◌}
 use Rattle.std.proofs.lemmas.List.Elements.{All-weaker}
 use Rattle.sa_value.specs.declared.value.Value.{Value}
-use Rattle.sa_plan.specs.declared.plan.Planned.{Planned}
 use Rattle.sa_desk.specs.declared.entry.Entry.{Entry}
 use Rattle.sa_desk.specs.declared.entry.Event.TheVariants.{End}
 use Rattle.sa_desk.specs.declared.outcome.Outcome.{Outcome}
@@ -14,7 +13,7 @@ use Rattle.sa_desk.specs.program.Prepares.{Answers}
 use Rattle.sa_desk.specs.program.Statement.{EndsAs}
 use Rattle.sa_desk.specs.program.RunEnds.{RunEnds}
 use Rattle.sa_legal.specs.Rows.{HasRows}
-use Rattle.sa_legal.proofs.Between.{MayEnd, IsOfOthers, between_end}
+use Rattle.sa_legal.proofs.Between.{IsOfOthers, between_end}
 use Rattle.sa_legal.proofs.Parts.{EndPart, IsPartOf, IsPart}
 use Rattle.sa_legal.proofs.Prepared.{IsWithoutRows, IsPreparedCourse, part_prepared}
 use Rattle.sa_legal.proofs.Programs.{program_parts}
@@ -63,8 +62,7 @@ ends_well gives sessions session entry of number steps names rows is =
     let course : Course = course_of given part.part.settings part.part.answer in
     let limit : ℕ = part.part.settings.limit in
     let ends = subst (λ event. EndsAs given limit part.number part.b part.before course part.between part.turn event part.result) is part.ends_so in
-    let same = same_number gives given part.number limit part.b part.before part.between part.turn number steps names rows part.result course ends in
-    (
+    let same = same_number gives given part.number limit part.b part.before part.between part.turn number steps names rows part.result course ends in (
       part.own,
       subst (λ n. HasRows gives given n names rows) (sym same)
           (rows_at gives given part.number limit part.b part.before part.between part.turn number steps names rows part.result course (part_prepared gives given part.number part.part) ends),

@@ -10,7 +10,6 @@ use Rattle.sa_meaning.specs.Data.{RunData}
 use Rattle.sa_desk.specs.declared.entry.Entry.{Entry}
 use Rattle.sa_desk.specs.declared.entry.Event.TheVariants.{Begin, Served}
 use Rattle.sa_desk.specs.Legal.{Sessions, given_of, journal_at, IsLegal}
-use Rattle.sa_desk.specs.law.Shown.{IsShown}
 use Rattle.sa_desk.specs.program.Course.{Given, Course, says, shows, waits, kills, runs, text_of, course_of}
 use Rattle.sa_desk.specs.program.Prepares.{Answers}
 use Rattle.sa_desk.specs.program.SoFar.{terms_of}

@@ -1,5 +1,5 @@
 -- The plan of what was shown is lawful, and is found in the journal that it was shown from.
-use Rattle.std.proofs.Common.{◌≡◌, ℕ, zero, suc, ◌+◌, ◌-◌, ◌<◌, ◌≤◌, ◌==◌, ◌&&◌, Bool, true, false, List, [], ◌∷◌, ◌++◌, append_assoc, length, filter, All, Option, Some, None, slice_get, slice_index_or, inl, inr, refl, sym, subst, ap, ◌∙◌, arith}
+use Rattle.std.proofs.Common.{◌≡◌, ℕ, zero, suc, ◌≤◌, ◌==◌, ◌&&◌, Bool, true, List, [], ◌∷◌, ◌++◌, append_assoc, length, filter, All, Option, Some, None, slice_get, slice_index_or, inl, inr, sym, subst, ap, ◌∙◌, arith}
 use Rattle.std.specs.Prelude.{option_and_then}
 use Rattle.std.proofs.lemmas.Bool.{cases_Bool, cases_lt}
 use Rattle.std.proofs.lemmas.Bool.Decides.{nat_tests}
@@ -62,6 +62,9 @@ pub same_on : (terms : Terms) (number also : ℕ) (before : List Entry) (on : Is
 same_on terms number also before on other =
     same_begin on.earlier on.since other.earlier other.since on.begin other.begin (sym on.parts ∙ other.parts)
     (not_within terms number before on) (not_within terms also before other) on.within other.within
+
+plan_on : (terms : Terms) (number : ℕ) (before : List Entry) (on : IsOn terms number before) (plan : Plan) → on.plan ≡ Some plan → plan_in on.begin.event ≡ Some plan
+plan_on terms number before on plan has = ap plan_in on.begins ∙ has
 
 -- A list with an element isn't empty.
 some_there : {X : Type 0} (first rest : List X) (x : X) → [] ≡ first ++ x ∷ rest → ⊥
@@ -144,12 +147,11 @@ module _ (gives : Answers) (sessions : Sessions) (journals : List (List Entry)) 
       let shown = plan_shown terms (journal_at journals desk) answered.before answered.rest answered.answer session request report (legal.desks desk there.0 there.1) answered.parts answered.serves in
       let same = same_on terms shown.number answered.number answered.before shown.on on in
       let begins : plan_in on.begin.event ≡ Some shown.plan =
-      ap (λ (e : Entry). plan_in e.event) (sym same) ∙ ap plan_in shown.on.begins ∙ shown.has_plan in
+      ap (λ (e : Entry). plan_in e.event) (sym same) ∙ plan_on terms shown.number answered.before shown.on shown.plan shown.has_plan in
       let all = subst (All (IsFine sessions.tables)) parts
       (for_each gives sessions journals legal (λ actor entry. IsFine sessions.tables entry) fine desk there.0 there.1) in
       let lawful = lawful_in sessions.tables on.begin.event shown.plan
-      (All-there (IsFine sessions.tables) on.earlier (on.since ++ answered.answer ∷ answered.rest) on.begin all) begins in
-      (
+      (All-there (IsFine sessions.tables) on.earlier (on.since ++ answered.answer ∷ answered.rest) on.begin all) begins in (
         shown.plan,
         subst (λ number. plan_begun journals desk number ≡ Some shown.plan) answered.under
             (plan_found desk there.0 there.1 on.earlier (on.since ++ answered.answer ∷ answered.rest) on.begin shown.plan parts on.own begins),

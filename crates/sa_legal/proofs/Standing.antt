@@ -1,12 +1,12 @@
 -- What holds of all entries that a session has made holds of those that stand in a journal, and their numbers tell them apart.
-use Rattle.std.proofs.Common.{◌≡◌, ℕ, zero, suc, ◌+◌, ◌-◌, ◌<◌, ◌≤◌, ◌==◌, List, [], ◌∷◌, ◌++◌, length, map, filter, All, inl, inr, slice_index_or, refl, sym, subst, ap, ◌∙◌, arith}
+use Rattle.std.proofs.Common.{◌≡◌, ℕ, zero, suc, ◌+◌, ◌-◌, ◌<◌, ◌≤◌, ◌==◌, List, [], ◌∷◌, ◌++◌, length, map, All, inl, inr, slice_index_or, refl, subst, ap, ◌∙◌, arith}
 use Rattle.std.specs.List.{range_with_len}
 use Rattle.std.proofs.lemmas.Bool.{cases_eq}
 use Rattle.std.proofs.lemmas.List.{get_or_default, get_or_past}
 use Rattle.std.proofs.lemmas.List.Elements.{All-nil, All-cons, All-head, All-tail, All-same, All-filter}
 use Rattle.sa_desk.specs.declared.entry.Entry.{Entry}
 use Rattle.sa_desk.specs.World.{made_by, standing_on}
-use Rattle.sa_desk.specs.Legal.{Sessions, given_of, journal_at, IsMade, HasProgram, IsLegal}
+use Rattle.sa_desk.specs.Legal.{Sessions, journal_at, IsMade, IsLegal}
 use Rattle.sa_desk.specs.program.Prepares.{Answers}
 use Rattle.sa_desk.proofs.laws.Outline.{made_by-own, made_by-other}
 

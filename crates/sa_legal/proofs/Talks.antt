@@ -1,14 +1,13 @@
 -- What a journal notes of a session's requests, taken apart: what the session itself says, and what the desk's machine knows.
-use Rattle.std.proofs.Common.{◌≡◌, ◌≢◌, ℕ, ◌+◌, ◌<◌, ◌≤◌, ◌==◌, Bool, true, false, if◌then◌else◌, List, [], ◌∷◌, ◌++◌, Option, Some, None, inl, inr, refl, sym, subst, ap, ◌∙◌, arith}
+use Rattle.std.proofs.Common.{◌≡◌, ℕ, ◌<◌, ◌==◌, Bool, true, false, if◌then◌else◌, List, [], ◌∷◌, Option, Some, None, inl, inr, refl, sym, ap, ◌∙◌}
 use Rattle.std.specs.Prelude.{⊤, filter_map}
 use Rattle.std.specs.List.{cons_option}
 use Rattle.std.proofs.lemmas.Bool.{cases_eq, eq-eqb, ne_eqb}
-use Rattle.sa_count.specs.declared.report.Report.{Report}
 use Rattle.sa_desk.specs.declared.entry.Entry.{Entry}
 use Rattle.sa_desk.specs.declared.entry.Event.{Event}
 use Rattle.sa_desk.specs.declared.entry.Event.TheVariants.{Queued, Refused, Served, Taken, Spent, Withdrawn}
 use Rattle.sa_desk.specs.World.{made_by}
-use Rattle.sa_desk.specs.law.Talk.{Word, asks, answers as replies, takes as fetches, leaves as quits, word_by, words, nothing_open, waiting, answered, IsTalk}
+use Rattle.sa_desk.specs.law.Talk.{Word, asks, answers as replies, takes as fetches, leaves as quits, word_by, words, nothing_open, IsTalk}
 use Rattle.sa_desk.proofs.laws.Outline.{made_by-own, made_by-other}
 use Rattle.sa_legal.specs.Requests.{Note, refuses, queues, answers, takes, leaves, note_by, notes_of, AreRequests}
 
