@@ -1,0 +1,13 @@
+pub mod Between
+pub mod Parts
+pub mod Programs
+pub mod Fine
+pub mod Standing
+pub mod Shown
+pub mod Telling
+pub mod Prepared
+pub mod Rows
+pub mod Runs
+pub mod Talks
+pub mod Asks
+pub mod Requests

@@ -1,0 +1,5 @@
+pub mod Shows
+pub mod Prepared
+pub mod Rows
+pub mod Requests
+pub mod Runs
