@@ -34,7 +34,7 @@ module _ (first before after : AllSessions) (index : ℕ) where
       let were = none refl in
       let now = (same refl).1 in (
         kept ∙ were.0,
-        subst (λ all. AreDoneTo all (index + 1)) (sym kept)
+        subst (λ (all : AllSessions). AreDoneTo all (index + 1)) (sym kept)
             (λ session least most. elim (cases_eq session (index + 1)) [
               | inl here ↦ subst (λ session. (view_in before.views session).stage ≡ done) (sym here) now
               | inr apart ↦ were.1 session least (omega arith)
