@@ -24,7 +24,7 @@ module _ (view : View) where
       let there = on.there in
       let texts = given.texts in omega (arith, began, turn, there, texts, short)
 
-  run_fits : (planned : Planned) (made : ℕ) → IsGiven view.given → IsLimit view.settings.limit → IsRunning view planned made → view.turn + 1 < 2 ^ 64
+  pub run_fits : (planned : Planned) (made : ℕ) → IsGiven view.given → IsLimit view.settings.limit → IsRunning view planned made → view.turn + 1 < 2 ^ 64
   run_fits planned made given limit running =
       let most = limit.1 in
       let points = points_most view planned made given running in on_fits made given running.on (omega (arith, most, points))

@@ -2,3 +2,4 @@ pub mod Fixed
 pub mod Given
 pub mod All
 pub mod Legal
+pub mod Turned

@@ -1,17 +1,16 @@
-ghost use Rattle.std.specs.Prelude.{◌≡◌, ℕ, List, true, IfOk};
+ghost use Rattle.std.specs.Prelude.{◌≡◌, ◌↔◌, ℕ, List, true, IsTrue, IfOk};
 ghost use Rattle.std.specs.Arc.{arc_value};
 ghost use Rattle.sa_desk.specs.declared.entry.Entry.{Entry};
 ghost use Rattle.sa_desk.specs.World.{World, next_stamp, IsCall, Meets};
 ghost use Rattle.sa_desk.specs.program.Course.{Answer};
 ghost use Rattle.sa_desk.specs.program.Turn.{made, left};
-ghost use Rattle.sa_worker.specs.View.{IsActive, call_at, desk_at, me_of};
+ghost use Rattle.sa_worker.specs.View.{IsActive, call_at, desk_at, done, me_of, first_view};
 ghost use Rattle.sa_worker.specs.Next.{next_view};
 ghost use Rattle.sa_worker.specs.Works.{Works};
 ghost use Rattle.sa_worker.specs.Holds.{Holds};
 ghost use Rattle.sa_worker.specs.Keeps.{Keeps};
 ghost use Rattle.sa_worker.specs.Follows.{Follows, ended_with};
 ghost use Rattle.sa_worker.specs.Sound.{GivesSound};
-ghost use Rattle.sa_worker.specs.View.{first_view};
 ghost use Rattle.sa_worker.specs.Answered.{answer_at};
 
 use crate::given::Given;
@@ -101,6 +100,13 @@ impl Worker {
                 stage: Stage::Prepares,
             },
         })
+    }
+
+    /// Whether the session has closed.
+    pub fn is_done(&self) -> bool
+        ensures { IsTrue result ↔ (self.now.stage ≡ done) }
+    {
+        matches!(&self.session.stage, Stage::Done)
     }
 
     /// Does the private work of the next turn: it prepares a statement, or makes the steps of a run. It

@@ -1,0 +1,14 @@
+use Rattle.std.proofs.Common.{◌≡◌, ℕ, ◌<◌, ◌≤◌, true, false}
+use Rattle.sa_worker.specs.View.{done}
+use Rattle.sa_step.specs.Sessions.{AreRunning, view_in}
+use Rattle.sa_step.specs.Remaining.{remaining}
+use Rattle.sa_step.proofs.step.take_round.Given as goal
+
+-- The sessions of this script go on. Where none has taken a turn all so far are done, and else fewer turns remain.
+abbrev pub invariant-loop-index : goal.invariant-loop-index
+invariant-loop-index g l = record {
+  running : AreRunning (g.P.Preparer.answers l.prepare) l.sessions;
+  script : l.sessions.script ≡ l.fn.sessions.script;
+  some : l.any ≡ true → remaining l.sessions.views < remaining l.fn.sessions.views;
+  none : l.any ≡ false → (l.sessions ≡ l.fn.sessions) × ((session : ℕ) → 1 ≤ session → session ≤ l.index → (view_in l.sessions.views session).stage ≡ done);
+}

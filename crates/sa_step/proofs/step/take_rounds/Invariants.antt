@@ -1,0 +1,14 @@
+use Rattle.std.proofs.Common.{◌≡◌}
+use Rattle.sa_step.specs.Sessions.{AreRunning}
+use Rattle.sa_step.specs.Remaining.{remaining}
+use Rattle.sa_step.proofs.step.take_rounds.Given as goal
+
+-- The sessions of this script go on.
+abbrev pub invariant-loop-sessions : goal.invariant-loop-sessions
+invariant-loop-sessions g l = record {
+  running : AreRunning (g.P.Preparer.answers l.prepare) l.sessions;
+  script : l.sessions.script ≡ l.fn.sessions.script;
+}
+
+abbrev pub decreases-loop-sessions : goal.decreases-loop-sessions
+decreases-loop-sessions g l = remaining l.sessions.views
