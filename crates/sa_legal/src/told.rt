@@ -17,5 +17,6 @@ pub fn legal_journals_can_be_told<P: Preparer>(prepare: &P)
         ((session : ℕ) → 1 ≤ session → session ≤ length sessions.texts →
         GivesSound (P.answers prepare.now) (given_of sessions session)) →
         ShowsLawful (P.answers prepare.now) sessions.tables →
-        IsLegal (P.answers prepare.now) sessions journals → CanTell (names_of sessions.tables) journals }
+        IsLegal (P.answers prepare.now) sessions journals
+        → CanTell (names_of sessions.tables) journals }
 {}

@@ -14,4 +14,5 @@ remaining views = sum_by (λ (view : View). 2 ^ 64 - view.turn) views
 
 -- All are done.
 abbrev pub AreDone : List View → Type 0
-AreDone views = (session : ℕ) → 1 ≤ session → session ≤ length views → (view_in views session).stage ≡ done
+AreDone views =
+    (session : ℕ) → 1 ≤ session → session ≤ length views → (view_in views session).stage ≡ done

@@ -23,9 +23,11 @@ pub record MayStart (script : Sessions) : Type 0 where
   pub least_turns : 1 ≤ script.turns
   pub most_turns : script.turns ≤ 1_000_000_000
 
--- Each plan that the preparer gives can be run by any of the sessions, and each step limit is within its bounds.
+-- Each plan that the preparer gives can be run by any of the sessions, and each step limit is
+-- within its bounds.
 abbrev pub AreSound : Answers → Sessions → Type 0
-AreSound gives script = (session : ℕ) → 1 ≤ session → session ≤ length script.texts → GivesSound gives (given_of script session)
+AreSound gives script = (session : ℕ) → 1 ≤ session → session ≤ length script.texts
+    → GivesSound gives (given_of script session)
 
 -- what the worker of this session holds before the first turn
 abbrev pub first_in : Sessions → ℕ → View
@@ -37,7 +39,9 @@ first_views script = map (first_in script) (range_with_len 1 (length script.text
 -- what the worker of this session holds
 abbrev pub view_in : List View → ℕ → View
 view_in views session =
-    slice_index_or views (session - 1) (first_view (record { session = 0; sessions = 0; quantum = 0; turns = 0; tables = []; texts = [] }))
+    slice_index_or views (session - 1)
+    (first_view
+    (record { session = 0; sessions = 0; quantum = 0; turns = 0; tables = []; texts = [] }))
 
 -- There are a desk and a worker for each session, and all have come so far.
 pub record AreRunning (gives : Answers) (all : AllSessions) : Type 0 where

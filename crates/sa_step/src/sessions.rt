@@ -130,7 +130,8 @@ impl Sessions {
         ensures running { AreRunning (P.answers prepare.now) self.new }
         ensures script { self.new.script ≡ self.old.script }
         ensures turned { result ≡ answer_at (view_in self.new.views session).stage }
-        ensures turns { (view_in self.new.views session).turn ≡ (view_in self.old.views session).turn + 1 }
+        ensures turns { (view_in self.new.views session).turn
+            ≡ (view_in self.old.views session).turn + 1 }
         ensures others { (other : ℕ) → 1 ≤ other → other ≢ session →
             view_in self.new.views other ≡ view_in self.old.views other }
     {

@@ -100,7 +100,8 @@ fn take_turn<P: Preparer>(sessions: &mut Sessions, prepare: &P, session: u32) ->
     ensures running { AreRunning (P.answers prepare.now) sessions.new }
     ensures script { sessions.new.script ≡ sessions.old.script }
     ensures some { IsTrue result → remaining sessions.new.views < remaining sessions.old.views }
-    ensures none { result ≡ false → (sessions.new ≡ sessions.old) × ((view_in sessions.old.views session).stage ≡ done) }
+    ensures none { result ≡ false
+        → (sessions.new ≡ sessions.old) × ((view_in sessions.old.views session).stage ≡ done) }
 {
     if sessions.is_done(session) {
         return false;
