@@ -22,8 +22,7 @@ impl Model for MemorySource {
 
     ghost Value = { SourceState };
 
-    ghost view =
-        { λ source. record { left = source.bytes; piece = source.piece; calls = source.calls } };
+    ghost view = { λ source. record { left = source.bytes; piece = source.piece; calls = source.calls } };
 
     ghost invariant = { λ source. 0 < source.piece };
 }
