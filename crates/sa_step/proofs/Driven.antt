@@ -1,5 +1,5 @@
 -- A turn of one of the sessions of a script.
-use Rattle.std.proofs.Common.{◌≡◌, ◌≢◌, ℕ, ◌+◌, ◌-◌, ◌==◌, ◌<◌, ◌≤◌, true, if◌then◌else◌, inl, inr, List, length, slice_index_or, slice_set, refl, sym, subst, ap, ◌∙◌, arith}
+use Rattle.std.proofs.Common.{◌≡◌, ◌≢◌, ℕ, ◌-◌, ◌≤◌, true, inl, inr, List, [], length, slice_set, refl, sym, subst, ap, ◌∙◌, arith}
 use Rattle.std.proofs.lemmas.Bool.{cases_eq, eq-eqb, ne_eqb}
 use Rattle.std.proofs.lemmas.Bool.Decides.{nat_tests}
 use Rattle.std.proofs.lemmas.Grind.{common_steps, get_or-set_at}
@@ -8,14 +8,14 @@ use Rattle.sa_desk.specs.Legal.{Sessions, given_of}
 use Rattle.sa_desk.specs.Plain.{Plain, IsPlain, are_there, world_of}
 use Rattle.sa_desk.specs.World.{World, IsCall, Meets, next_stamp}
 use Rattle.sa_desk.specs.program.Course.{Given}
-use Rattle.sa_desk.specs.program.Prepares.{Answers, IsAnswer}
+use Rattle.sa_desk.specs.program.Prepares.{Answers}
 use Rattle.sa_desk.specs.program.Turn.{made, left}
 use Rattle.sa_desk.proofs.PlainCall.{Meets-plain}
-use Rattle.sa_worker.specs.View.{View, Stage, prepares, makes_steps, opens, closes, ends, asks, polls, looks_asking, withdraws, kills, waits, looks_waiting, points, ends_run, done, text_at, me_of, IsActive, call_at, desk_at}
+use Rattle.sa_worker.specs.View.{View, Stage, prepares, makes_steps, opens, closes, ends, asks, polls, looks_asking, withdraws, kills, waits, looks_waiting, points, ends_run, done, first_view, text_at, me_of, IsActive, call_at, desk_at}
 use Rattle.sa_worker.specs.Next.{next_view}
-use Rattle.sa_worker.specs.Works.{Prepares, is_prepared, is_last, Makes, goes_on, stops, WorksAt, Works}
+use Rattle.sa_worker.specs.Works.{Prepares, is_prepared, is_last, goes_on, stops, WorksAt, Works}
 use Rattle.sa_worker.specs.Holds.{Holds}
-use Rattle.sa_worker.specs.Keeps.{IsSession, Keeps}
+use Rattle.sa_worker.specs.Keeps.{Keeps}
 use Rattle.sa_worker.specs.Sound.{GivesSound}
 use Rattle.sa_worker.specs.Working.{IsWorking, AreWorking, with_view}
 use Rattle.sa_step.specs.Sessions.{AllSessions, AreRunning, view_in}
@@ -98,6 +98,10 @@ module _ (gives : Answers) (all : AllSessions) (running : AreRunning gives all) 
 
     pub meets : Meets (world_of all.plain) (desk_at later later.stage) later.given.session
     meets = Meets-plain all.plain plain (desk_at later later.stage) later.given.session called_there
+
+-- what stands for a worker that isn't there
+abbrev pub nobody : View
+nobody = first_view (record { session = 0; sessions = 0; quantum = 0; turns = 0; tables = []; texts = [] })
 
 -- What the views are where one is replaced.
 replaced_view : (views : List View) (session : ℕ) (later : View) → 1 ≤ session → session ≤ length views → (other : ℕ) → 1 ≤ other

@@ -1,5 +1,5 @@
 -- What a turn of one of the sessions of a script asks for and leaves, as the code has it.
-use Rattle.std.proofs.Common.{◌≡◌, ◌≢◌, ℕ, ◌+◌, ◌-◌, ◌≤◌, true, length, slice_index_or, slice_set, sym, subst, ap, ◌∙◌, arith}
+use Rattle.std.proofs.Common.{◌≡◌, ◌≢◌, ℕ, ◌+◌, ◌-◌, ◌≤◌, true, length, slice_index_or, slice_set, sym, subst, ◌∙◌, arith}
 use Rattle.std.proofs.lemmas.List.{get_or_default}
 use Rattle.sa_desk.specs.Plain.{Plain, IsPlain, are_there, world_of}
 use Rattle.sa_desk.specs.World.{World, IsCall, Meets, next_stamp}

@@ -5,13 +5,13 @@ use Rattle.std.specs.List.{sum_by}
 use Rattle.sa_desk.specs.Contents.{Contents}
 use Rattle.sa_desk.specs.Legal.{Sessions, IsLegal}
 use Rattle.sa_desk.specs.Plain.{IsPlain}
-use Rattle.sa_desk.specs.program.Course.{Given}
 use Rattle.sa_desk.specs.program.Prepares.{Answers}
-use Rattle.sa_worker.specs.View.{View, first_view, done}
+use Rattle.sa_worker.specs.View.{View, done}
 use Rattle.sa_step.specs.Sessions.{AllSessions, AreRunning, view_in}
 use Rattle.sa_worker.proofs.working.Legal.{are_legal}
 use Rattle.sa_worker.proofs.working.Turned.{turn_small}
 use Rattle.sa_step.specs.Remaining.{remaining, AreDone}
+use Rattle.sa_step.proofs.Driven.{nobody}
 
 -- A sum of lists that are alike in each place, and of lists that differ in one.
 sum_same : {X : Type 0} (f : X → ℕ) (d : X) (xs ys : List X) → length ys ≡ length xs → ((k : ℕ) → get_or ys k d ≡ get_or xs k d) → sum_by f ys ≡ sum_by f xs
@@ -37,21 +37,9 @@ sum_less f d (x ∷ xs) (y ∷ ys) (suc index) there count same less =
     let rest = sum_less f d xs ys index (omega arith) (omega (arith, count)) (λ k apart. same (suc k) (λ is. apart (omega (arith, is)))) less in
     less_as (sum_by-cons f y ys) (sum_by-cons f x xs) (omega (arith, first, rest))
 
--- what stands for a worker that isn't there
-abbrev nobody : View
-nobody = first_view (record { session = 0; sessions = 0; quantum = 0; turns = 0; tables = []; texts = [] })
-
 -- There are as many workers as before.
 pub count_same : (gives : Answers) (before after : AllSessions) → AreRunning gives before → AreRunning gives after → after.script ≡ before.script → length after.views ≡ length before.views
 count_same gives before after was is script = is.workers ∙ ap (λ (script : Sessions). length script.texts) script ∙ sym was.workers
-
--- There are few workers.
-pub few_running : (gives : Answers) (all : AllSessions) → AreRunning gives all → (session : ℕ) → 1 ≤ session → session ≤ length all.views → length all.views ≤ 16
-few_running gives all running session least most =
-    let count = running.workers in
-    let there : session ≤ length all.script.texts = omega (arith, count, most) in
-    let same : (view_in all.views session).given.sessions ≡ length all.script.texts = ap (λ (given : Given). given.sessions) (running.working.given session least there) in
-    let few = (running.working.working session least there).keeps.holds.given.most_sessions in omega (arith, count, same, few)
 
 module _ (gives : Answers) (before after : AllSessions) (session : ℕ) (least : 1 ≤ session) (most : session ≤ length before.views) (was : AreRunning gives before) (is : AreRunning gives after)
     (script : after.script ≡ before.script) where

@@ -1,8 +1,8 @@
 -- A round, session by session.
-use Rattle.std.proofs.Common.{◌≡◌, ℕ, ◌+◌, ◌<◌, ◌≤◌, ◌||◌, Bool, true, false, inl, inr, List, length, refl, sym, subst, ap, ◌∙◌, arith}
+use Rattle.std.proofs.Common.{◌≡◌, ℕ, ◌+◌, ◌<◌, ◌≤◌, ◌||◌, Bool, true, false, inl, inr, refl, sym, subst, ap, ◌∙◌, arith}
 use Rattle.std.specs.Prelude.{IsTrue}
 use Rattle.std.proofs.lemmas.Bool.{cases_eq}
-use Rattle.sa_worker.specs.View.{View, done}
+use Rattle.sa_worker.specs.View.{done}
 use Rattle.sa_step.specs.Sessions.{AllSessions, view_in}
 use Rattle.sa_step.specs.Remaining.{remaining}
 
@@ -21,7 +21,7 @@ module _ (first before after : AllSessions) (index : ℕ) where
   pub some_left : (any taken : Bool) → (any ≡ true → remaining before.views < remaining first.views) → (any ≡ false → (before ≡ first) × AreDoneTo before index)
       → (IsTrue taken → remaining after.views < remaining before.views) → (taken ≡ false → (after ≡ before) × ((view_in before.views (index + 1)).stage ≡ done))
       → (any || taken) ≡ true → remaining after.views < remaining first.views
-  some_left any true some none less same is = less_taken first before after index (less tt) any some none
+  some_left any true some none less same is = less_taken first before after index (less refl) any some none
   some_left true false some none less same is = subst (λ (all : AllSessions). remaining all.views < remaining first.views) (sym (same refl).0) (some refl)
   some_left false false some none less same is = cc
 

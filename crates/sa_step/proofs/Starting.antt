@@ -1,7 +1,6 @@
 -- What the sessions of a script begin with suits them.
-use Rattle.std.proofs.Common.{◌≡◌, ℕ, ◌+◌, ◌-◌, ◌*◌, ◌<◌, ◌≤◌, ◌==◌, Bool, true, false, if◌then◌else◌, inl, inr, List, [], ◌∷◌, length, map, drop, All, slice_index, slice_index_or, replicate, refl, sym, subst, ap, ◌∙◌, arith}
-use Rattle.std.specs.List.{range_with_len}
-use Rattle.std.proofs.lemmas.Bool.{cases_eq, cases_Bool, eq-eqb, ne_eqb}
+use Rattle.std.proofs.Common.{◌≡◌, ℕ, ◌+◌, ◌-◌, ◌*◌, ◌<◌, ◌≤◌, ◌==◌, Bool, true, false, inl, inr, List, [], ◌∷◌, length, drop, All, slice_index, slice_index_or, refl, sym, subst, ap, ◌∙◌, arith}
+use Rattle.std.proofs.lemmas.Bool.{cases_eq, eq-eqb, ne_eqb}
 use Rattle.std.proofs.lemmas.List.{get_or_default, get_or-drop}
 use Rattle.std.proofs.lemmas.List.FromFn.{get_or-map-range_with_len, length-map-range_with_len}
 use Rattle.sa_meaning.specs.Data.{RunData}
@@ -9,14 +8,12 @@ use Rattle.sa_desk.specs.Contents.{Contents, IsSound}
 use Rattle.sa_desk.specs.Legal.{Sessions, given_of}
 use Rattle.sa_desk.specs.New.{MayMake, IsNew, AreNew, no_desk}
 use Rattle.sa_desk.specs.Plain.{Plain, desk_at, world_of}
-use Rattle.sa_desk.specs.World.{World, IsFirst}
+use Rattle.sa_desk.specs.World.{IsFirst}
 use Rattle.sa_desk.specs.program.Prepares.{Answers}
-use Rattle.sa_desk.specs.program.SoFar.{terms_of}
 use Rattle.sa_worker.specs.View.{View, first_view, aimed}
 use Rattle.sa_worker.specs.Holds.{IsGiven}
-use Rattle.sa_worker.specs.Keeps.{IsSession, Suits}
-use Rattle.sa_worker.specs.Working.{AreWorking}
-use Rattle.sa_step.specs.Sessions.{AllSessions, MayStart, AreSound, AreRunning, first_in, first_views, view_in}
+use Rattle.sa_worker.specs.Keeps.{Suits}
+use Rattle.sa_step.specs.Sessions.{MayStart, AreSound, AreRunning, first_in, first_views, view_in}
 use Rattle.sa_step.specs.inner.Starts.{share_of, share_in, shares_for, desk_in, desks_of}
 use Rattle.sa_step.proofs.Driven.{AreWorking-same}
 use Rattle.sa_worker.proofs.working.All.{AreWorking-first}

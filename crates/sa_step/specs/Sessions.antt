@@ -1,5 +1,5 @@
 -- The sessions of a script on one thread, and what is true of them between two turns.
-use Rattle.std.specs.Prelude.{◌≡◌, ℕ, ◌+◌, ◌-◌, ◌*◌, ◌≤◌, ◌==◌, List, [], length, map, All, slice_index_or, if◌then◌else◌}
+use Rattle.std.specs.Prelude.{◌≡◌, ℕ, ◌-◌, ◌≤◌, List, [], length, map, All, slice_index_or}
 use Rattle.std.specs.List.{range_with_len}
 use Rattle.sa_desk.specs.Legal.{Sessions, given_of}
 use Rattle.sa_desk.specs.Plain.{Plain, world_of}

@@ -1,5 +1,5 @@
 -- Each call takes one turn, and private work takes none.
-use Rattle.std.proofs.Common.{◌≡◌, ◌≢◌, ◌-◌, ◌*◌, ◌≤◌, arith, ℕ, ◌+◌, ◌<◌, ◌^◌, Bool, true, false, refl, sym, subst, ap, ◌∙◌}
+use Rattle.std.proofs.Common.{◌≡◌, ◌≢◌, arith, ℕ, ◌+◌, ◌<◌, ◌^◌, Bool, true, false, refl, ap, ◌∙◌}
 use Rattle.sa_ast.specs.declared.kind.AskKind.{AskKind}
 use Rattle.sa_plan.specs.declared.plan.Planned.{Planned}
 use Rattle.sa_meaning.specs.Progress.{Progress}

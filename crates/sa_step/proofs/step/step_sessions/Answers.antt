@@ -1,5 +1,4 @@
-use Rattle.std.proofs.Common.{◌≡◌, length, All, sym, subst, ap, ◌∙◌}
-use Rattle.std.specs.Arc.{arc_value}
+use Rattle.std.proofs.Common.{length, All, sym, subst, ap, ◌∙◌}
 use Rattle.sa_desk.specs.Legal.{Sessions, IsLegal}
 use Rattle.sa_step.specs.Remaining.{IsSession}
 use Rattle.sa_step.proofs.Remaining.{all_legal}
@@ -16,4 +15,4 @@ returns g c =
     let all = c.take_rounds.new.sessions in
     let legal = all_legal gives all c.finish.ensures.plain c.take_rounds.ensures.running c.take_rounds.ensures.finished in
     let script = c.take_rounds.ensures.script ∙ c.take_schedule.ensures.script ∙ c.in_ok-sessions.ensures.script in
-    subst (λ script. IsLegal gives script c.finish.result) script (subst (IsLegal gives all.script) (sym c.finish.ensures.journals) legal)
+    record { legal = subst (λ script. IsLegal gives script c.finish.result) script (subst (IsLegal gives all.script) (sym c.finish.ensures.journals) legal) }

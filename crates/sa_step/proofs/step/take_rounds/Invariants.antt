@@ -4,11 +4,11 @@ use Rattle.sa_step.specs.Remaining.{remaining}
 use Rattle.sa_step.proofs.step.take_rounds.Given as goal
 
 -- The sessions of this script go on.
-abbrev pub invariant-loop-sessions : goal.invariant-loop-sessions
-invariant-loop-sessions g l = record {
+abbrev pub invariant-loop : goal.invariant-loop
+invariant-loop g l = record {
   running : AreRunning (g.P.Preparer.answers l.prepare) l.sessions;
   script : l.sessions.script ≡ l.fn.sessions.script;
 }
 
-abbrev pub decreases-loop-sessions : goal.decreases-loop-sessions
-decreases-loop-sessions g l = remaining l.sessions.views
+abbrev pub decreases-loop : goal.decreases-loop
+decreases-loop g l = remaining l.sessions.views

@@ -1,6 +1,7 @@
 use Rattle.std.proofs.Common.{ap, ◌∙◌, ◌-◌, [], length, arith, get_or-set_same}
-use Rattle.sa_worker.specs.View.{View, first_view}
+use Rattle.sa_worker.specs.View.{View}
 use Rattle.sa_step.specs.Sessions.{AllSessions}
+use Rattle.sa_step.proofs.Driven.{nobody}
 use Rattle.sa_step.proofs.Driving.{turned_later, keeps_later, allowed_later, met_later, running_later}
 use Rattle.sa_step.proofs.sessions.Sessions.turn.Goals as goal
 
@@ -24,10 +25,6 @@ returns-clause-running g c =
     running_later (g.P.Preparer.answers c.args.prepare.now) _ c.args.self.now c.self.view_is c.requires.running c.args.session c.requires.least c.requires.most
     c.index_mut-worker.result.now c.work-desk.new.self c.index_mut-worker.ensures.value c.work-desk.ensures.works c.work-desk.ensures.keeps
     c.requires.undone c.turn.new.desks c.turn.new.self c.turn.ensures.same c.turn.ensures.call c.turn.ensures.next
-
--- what stands for a worker that isn't there
-abbrev nobody : View
-nobody = first_view (record { session = 0; sessions = 0; quantum = 0; turns = 0; tables = []; texts = [] })
 
 pub returns-clause-turns : goal.returns-clause-turns
 returns-clause-turns g c =
