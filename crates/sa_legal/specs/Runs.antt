@@ -13,7 +13,8 @@ use Rattle.sa_legal.specs.Prepared.{IsPrepared}
 -- The answer is about the statement that is on at this desk after the entries before: it counts what that statement's plan counts
 -- after one number of steps, at most a quantum above the number that stood when the request was queued (`IsShown`). The plan is
 -- that which the statement, a SELECT or an ANALYZE, was prepared to, and it runs over the script's tables.
-pub record ShowsRun (gives : Answers) (sessions : Sessions) (desk : ℕ) (before : List Entry) (answer : Entry) (asker request : ℕ) (report : Report) : Type 0 where
+pub record ShowsRun (gives : Answers) (sessions : Sessions) (desk : ℕ) (before : List Entry) (answer : Entry)
+    (asker request : ℕ) (report : Report) : Type 0 where
   pub shown : IsShown (terms_of (given_of sessions desk) desk) before answer asker request report
   pub planned : Planned
   pub plan_is : shown.plan ≡ planned.plan

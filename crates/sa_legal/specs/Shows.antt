@@ -9,4 +9,5 @@ use Rattle.sa_desk.specs.program.Prepares.{Answers}
 
 -- Each plan that preparation gives an EXPLAIN is lawful for the tables.
 pub record ShowsLawful (gives : Answers) (tables : RunData) : Type 0 where
-  pub lawful : (source text : List ℕ) (planned : Planned) → gives source (Ok (record { text = text; work = work.Explain planned })) → IsLawful tables planned.plan
+  pub lawful : (source text : List ℕ) (planned : Planned)
+      → gives source (Ok (record { text = text; work = work.Explain planned })) → IsLawful tables planned.plan
