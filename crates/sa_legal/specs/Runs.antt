@@ -15,7 +15,8 @@ use Rattle.sa_legal.specs.Prepared.{IsPrepared}
 -- that stood when the request was queued (`IsShown`). The plan is that which the statement, a
 -- SELECT or an ANALYZE, was prepared to, and it runs over the script's tables.
 pub record ShowsRun (gives : Answers) (sessions : Sessions) (desk : ℕ) (before : List Entry)
-    (answer : Entry) (asker request : ℕ) (report : Report) : Type 0 where
+    (answer : Entry)
+    (asker request : ℕ) (report : Report) : Type 0 where
   pub shown : IsShown (terms_of (given_of sessions desk) desk) before answer asker request report
   pub planned : Planned
   pub plan_is : shown.plan ≡ planned.plan

@@ -16,8 +16,8 @@ ghost use Rattle.sa_legal.specs.Runs.{ShowsRun};
 
 use sa_plan::Preparer;
 
-/// A statement that ends with rows is a SELECT, and has all rows that its plan gives over the tables,
-/// whatever others ask, are answered or do meanwhile.
+/// A statement that ends with rows is a SELECT, and has all rows that its plan gives over the
+/// tables, whatever others ask, are answered or do meanwhile.
 pub fn finished_selects_have_their_rows<P: Preparer>(prepare: &P)
     ensures { (sessions : Sessions) (journals : List (List Entry)) →
         IsLegal (P.answers prepare.now) sessions journals →
@@ -29,8 +29,8 @@ pub fn finished_selects_have_their_rows<P: Preparer>(prepare: &P)
         HasRows (P.answers prepare.now) (given_of sessions desk) number names rows }
 {}
 
-/// A session's requests at a desk come one after another, each of a later statement than the one before.
-/// Each is refused; or queued, answered once and taken; or queued, and spent or withdrawn.
+/// A session's requests at a desk come one after another, each of a later statement than the one
+/// before. Each is refused; or queued, answered once and taken; or queued, and spent or withdrawn.
 pub fn requests_have_one_answer<P: Preparer>(prepare: &P)
     ensures { (sessions : Sessions) (journals : List (List Entry)) →
         IsLegal (P.answers prepare.now) sessions journals →
@@ -39,8 +39,8 @@ pub fn requests_have_one_answer<P: Preparer>(prepare: &P)
         AreRequests 0 (notes_of session (journal_at journals desk)) }
 {}
 
-/// An answer to a request shows the plan of the statement that is on, as it was prepared, and what a run
-/// of it has counted when the request was queued or at most a quantum later.
+/// An answer to a request shows the plan of the statement that is on, as it was prepared, and what
+/// a run of it has counted when the request was queued or at most a quantum later.
 pub fn shown_plans_run<P: Preparer>(prepare: &P)
     ensures { (sessions : Sessions) (journals : List (List Entry)) →
         IsLegal (P.answers prepare.now) sessions journals →

@@ -1,7 +1,7 @@
 //! What is true of legal journals, whoever made them.
 //!
-//! A law is a function that does nothing: its contract states the law, which its proof shows once and
-//! for all. Which journals are legal is defined in `sa_desk`.
+//! A law is a function that does nothing: its contract states the law, which its proof shows once
+//! and for all. Which journals are legal is defined in `sa_desk`.
 #![tactic(auto)]
 
 mod law;
