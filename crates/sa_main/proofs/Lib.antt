@@ -1,10 +1,2 @@
-pub mod Lists
-pub mod PieceLaws
-pub mod SpellingLaws
-pub mod CandidateLaws
-pub mod ReadingLaws
-pub mod ComparisonLaws
-pub mod JournalLaws
-pub mod RunLaws
+pub mod AnswerLaws
 pub mod StepLaws
-pub mod Worked

@@ -1,12 +1,3 @@
-pub mod Names
-pub mod Script
-pub mod Meaning
-pub mod Pieces
-pub mod Comment
-pub mod Spelling
-pub mod Statements
-pub mod Form
-pub mod Candidate
-pub mod Journal
+pub mod Answer
 pub mod Step
 pub mod Words

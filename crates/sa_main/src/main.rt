@@ -1,23 +1,10 @@
-//! The program: it reads a script, runs its SELECT, and prints the journal of its session.
+//! The program: it reads a script, runs its sessions, and prints their journals.
 //!
 //! `analyze_main` is the call that the program makes. Its contract says why what is printed is right.
 #![tactic(auto)]
 
 mod analysis;
-mod candidate;
-mod comment;
-mod fault;
-mod integer;
-mod meaning;
-mod names;
-mod part;
-mod pieces;
-mod reading;
-mod rendering;
-mod running;
-mod script;
-mod spelling;
-mod statements;
+mod answering;
 mod stepping;
 
 use analysis::analyze_main;

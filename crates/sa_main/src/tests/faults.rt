@@ -1,8 +1,12 @@
+//! A read or a write that fails.
+
 ghost use Rattle.std.specs.Prelude.{◌<◌};
 
+use super::texts::{SERVED, SERVED_OUTPUT, TABLE};
 use super::*;
+use sa_source::{MemorySink, MemorySource};
 
-/// The statuses of `step` where one read or one write fails, and what was taken.
+/// The status of `step` where these reads and writes fail, and what was taken.
 fn step_failing(
     alloc: Global,
     read_piece: usize,
@@ -13,50 +17,51 @@ fn step_failing(
     requires reads { 0 < read_piece }
     requires writes { 0 < write_piece }
 {
-    let input = Vec::from_slice(alloc, THRESHOLD.as_bytes())?;
+    let words = words_of(alloc, &["step"])?;
+    let script = format!(in alloc; "{TABLE} {SERVED}")?;
     let failing_reads = Vec::from_slice(alloc, failing_reads)?;
     let failing_writes = Vec::from_slice(alloc, failing_writes)?;
-    let mut source = MemorySource::new(input, read_piece, failing_reads);
+    let mut source = MemorySource::new(script.into_bytes(), read_piece, failing_reads);
     let mut sink = MemorySink::new(alloc, write_piece, failing_writes);
-    let status = step_script(alloc, &mut source, &mut sink);
+    let status = analyze_main(alloc, &words, &mut source, &mut sink);
     Ok((status, sink))
 }
 
 #[test]
 fn a_failed_read_writes_nothing(rt: HostRuntime) -> Result<(), Fail> {
-    // 99 bytes in pieces of 10 are 10 reads, and one more finds the end.
-    for read in 1..12 {
+    // 165 bytes in pieces of 10 are 17 reads, and one more finds the end
+    for read in 1..19 {
         let (status, sink) = step_failing(rt.alloc(), 10, &[read], 1000, &[])?;
         assert_eq!(rt; status, 4, "read {read}");
         assert!(rt; sink.taken().is_empty(), "read {read}");
     }
-    let (status, _) = step_failing(rt.alloc(), 10, &[12], 1000, &[])?;
+    let (status, sink) = step_failing(rt.alloc(), 10, &[19], 1000, &[])?;
     assert_eq!(rt; status, 0);
+    assert!(rt; sink.taken() == SERVED_OUTPUT.as_bytes());
     Ok(())
 }
 
 #[test]
 fn a_failed_write_leaves_a_beginning(rt: HostRuntime) -> Result<(), Fail> {
-    let output = journal(rt.alloc(), "a >= 2", 6, &["2", "3"])?;
-    // 355 bytes in pieces of 100 are 4 writes.
-    for write in 1..5 {
+    let output = SERVED_OUTPUT.as_bytes();
+    let writes = output.len().div_ceil(100) as u64;
+    for write in 1..writes + 1 {
         let (status, sink) = step_failing(rt.alloc(), 1000, &[], 100, &[write])?;
         assert_eq!(rt; status, 5, "write {write}");
         let taken = sink.taken();
+        assert!(rt; output.starts_with(taken), "write {write}");
         assert_eq!(rt; taken.len() as u64, (write - 1) * 100, "write {write}");
-        assert!(rt; output.as_bytes().starts_with(taken), "write {write}");
     }
-    let (status, _) = step_failing(rt.alloc(), 1000, &[], 100, &[5])?;
+    let (status, _) = step_failing(rt.alloc(), 1000, &[], 100, &[writes + 1])?;
     assert_eq!(rt; status, 0);
     Ok(())
 }
 
 #[test]
 fn short_reads_and_writes_lose_nothing(rt: HostRuntime) -> Result<(), Fail> {
-    let output = journal(rt.alloc(), "a >= 2", 6, &["2", "3"])?;
     let (status, sink) = step_failing(rt.alloc(), 1, &[], 1, &[])?;
     assert_eq!(rt; status, 0);
-    assert!(rt; sink.taken() == output.as_bytes());
+    assert!(rt; sink.taken() == SERVED_OUTPUT.as_bytes());
     Ok(())
 }
 
@@ -64,11 +69,8 @@ fn short_reads_and_writes_lose_nothing(rt: HostRuntime) -> Result<(), Fail> {
 fn other_words_touch_nothing(rt: HostRuntime) -> Result<(), Fail> {
     let lines: [&[&str]; 4] = [&[], &["run"], &["step", "x"], &["STEP"]];
     for line in lines {
-        let mut words = Vec::new(rt.alloc());
-        for word in line {
-            words.push(String::from_str(rt.alloc(), word)?)?;
-        }
-        let mut source = PlainSource::new(Vec::from_slice(rt.alloc(), THRESHOLD.as_bytes())?);
+        let words = words_of(rt.alloc(), line)?;
+        let mut source = PlainSource::new(Vec::from_slice(rt.alloc(), TABLE.as_bytes())?);
         let mut sink = PlainSink::new(rt.alloc());
         let status = analyze_main(rt.alloc(), &words, &mut source, &mut sink);
         assert_eq!(rt; status, 2, "{words:?}");

@@ -1,0 +1,48 @@
+-- Which text answers an input: what is printed for legal journals of the script that it is, or the
+-- line of its first fault.
+use Rattle.std.specs.Prelude.{◌≡◌, ◌⊎◌, ℕ, List}
+use Rattle.sa_script.specs.declared.script.Script.{Script}
+use Rattle.sa_script.specs.Fault.{Fault}
+use Rattle.sa_script.specs.Script.{IsScript, IsFault}
+use Rattle.sa_plan.specs.Names.{names_of}
+use Rattle.sa_prepare.specs.Prepared.{Prepares}
+use Rattle.sa_desk.specs.declared.entry.Entry.{Entry}
+use Rattle.sa_desk.specs.Legal.{Sessions, IsLegal}
+use Rattle.sa_transcript.specs.Transcript.{transcript}
+use Rattle.sa_transcript.specs.FaultLine.{fault_text}
+
+-- the sessions of a script
+abbrev pub sessions_of : Script → Sessions
+sessions_of script = record {
+  tables = script.tables;
+  texts = script.sessions;
+  quantum = script.quantum;
+  turns = script.turns;
+}
+
+-- The text is what is printed for journals that are legal for the script's sessions.
+pub record TellsJournals (script : Script) (text : List ℕ) : Type 0 where
+  pub journals : List (List Entry)
+  pub legal : IsLegal (Prepares script.tables) (sessions_of script) journals
+  pub told : text ≡ transcript (names_of script.tables) journals
+
+-- No script has these bytes.
+abbrev pub IsNoScript : List ℕ → Type 0
+IsNoScript bytes = (script : Script) → IsScript bytes script → ⊥
+
+-- The input is a script, and the text tells its journals.
+pub record IsJournal (input text : List ℕ) : Type 0 where
+  pub script : Script
+  pub is_script : IsScript input script
+  pub journals : TellsJournals script text
+
+-- The input is no script, and the text tells the first fault.
+pub record IsRefusal (input text : List ℕ) : Type 0 where
+  pub no_script : IsNoScript input
+  pub fault : Fault
+  pub found : IsFault input fault
+  pub refused : text ≡ fault_text fault
+
+-- The text that answers an input: its journals, or the refusal.
+abbrev pub AnswersInput : List ℕ → List ℕ → Type 0
+AnswersInput input text = IsJournal input text ⊎ IsRefusal input text

@@ -1,4 +1,0 @@
-pub mod Item
-pub mod Progress
-pub mod LaidOut
-pub mod Run
