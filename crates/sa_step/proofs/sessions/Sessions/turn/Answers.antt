@@ -1,4 +1,4 @@
-use Rattle.std.proofs.Common.{ap, ◌∙◌, ◌-◌, [], length, arith, get_or-set_same}
+use Rattle.std.proofs.Common.{ap, ◌∙◌, ◌-◌, length, arith, get_or-set_same}
 use Rattle.sa_worker.specs.View.{View}
 use Rattle.sa_step.specs.Sessions.{AllSessions}
 use Rattle.sa_step.proofs.Driven.{nobody}
