@@ -71,7 +71,7 @@ module _ (script : Script) (ready tables : List Table) (texts : List (List (List
   legal_here =
       subst (λ texts. IsLegal (Prepares script.tables) (record { tables = script.tables; texts = texts; quantum = script.quantum; turns = script.turns }) journals) texts_same
       (subst (λ tables. IsLegal (Prepares script.tables) (record { tables = tables; texts = texts; quantum = script.quantum; turns = script.turns }) journals) tables_same
-       (subst (λ ready. IsLegal (Prepares ready) (record { tables = tables; texts = texts; quantum = script.quantum; turns = script.turns }) journals) ready_same legal))
+      (subst (λ ready. IsLegal (Prepares ready) (record { tables = tables; texts = texts; quantum = script.quantum; turns = script.turns }) journals) ready_same legal))
 
   -- The journals of a script's sessions can be told with the names of its tables.
   pub can_tell : (names : List TableNames) → names ≡ names_of script.tables → CanTell names journals

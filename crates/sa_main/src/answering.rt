@@ -1,7 +1,6 @@
 //! What is answered to an input.
 
 ghost use Rattle.std.specs.Prelude.{◌≡◌, ◌≢◌, ◌⊎◌, IfOk, Err};
-
 ghost use Rattle.sa_script.specs.Script.{IsScript, IsScriptOf};
 ghost use Rattle.sa_script.specs.Limits.{IsWithinLimits};
 ghost use Rattle.sa_main.specs.Answer.{TellsJournals, IsJournal, IsRefusal};

@@ -27,9 +27,9 @@ pub returns : goal.returns
 returns c =
     IfOk-weaker c.render.result _ _
     (λ text told.
-        tells_journals c.args.script c.new-ready.result (arc_value c.in_ok-tables.tables) c.into_vec-statements.result.items
-        (let ready = c.new-ready.ensures in let copy = c.in_ok-clone.ensures in let first = c.in_ok-tables.ensures in let seen = c.tables.view_is in cc)
-        (let first = c.in_ok-tables.ensures in let seen = c.tables.view_is in cc)
-        c.into_vec-statements.ensures c.in_ok-journals.journals c.in_ok-journals.ensures.legal c.in_ok-names.names text.items
-        (let names = c.in_ok-names.ensures in let seen = c.tables.view_is in cc) told)
+    tells_journals c.args.script c.new-ready.result (arc_value c.in_ok-tables.tables) c.into_vec-statements.result.items
+    (let ready = c.new-ready.ensures in let copy = c.in_ok-clone.ensures in let first = c.in_ok-tables.ensures in let seen = c.tables.view_is in cc)
+    (let first = c.in_ok-tables.ensures in let seen = c.tables.view_is in cc)
+    c.into_vec-statements.ensures c.in_ok-journals.journals c.in_ok-journals.ensures.legal c.in_ok-names.names text.items
+    (let names = c.in_ok-names.ensures in let seen = c.tables.view_is in cc) told)
     c.render.ensures

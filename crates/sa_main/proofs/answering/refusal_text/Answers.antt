@@ -3,7 +3,7 @@ use Rattle.sa_main.proofs.AnswerLaws.{is_refusal}
 use Rattle.sa_main.proofs.answering.refusal_text.Goals as goal
 
 pub fault_line-requires : goal.fault_line-requires
-fault_line-requires c = record { bad = c.requires.known; }
+fault_line-requires c = record { bad = c.requires.known }
 
 pub returns : goal.returns
 returns c =
