@@ -1,6 +1,6 @@
 -- What the laws of the crates below give for a script and for an input with a fault.
 use Rattle.std.proofs.Common.{◌≡◌, ◌≢◌, ℕ, ◌≤◌, List, length, All, refl, sym, subst, ap, ◌∙◌}
-use Rattle.std.specs.Prelude.{⊤, Option, Result, Ok, Err}
+use Rattle.std.specs.Prelude.{Option, Result, Ok, Err}
 use Rattle.sa_table.specs.Table.{Table}
 use Rattle.sa_script.specs.declared.script.Script.{Script}
 use Rattle.sa_script.specs.declared.fault.ScriptKind.{ScriptKind}
@@ -9,13 +9,11 @@ use Rattle.sa_script.specs.declared.fault.ScriptFault.TheVariants.{Bad, OutOfMem
 use Rattle.sa_script.specs.Script.{IsScriptOf}
 use Rattle.sa_script.specs.Limits.{IsWithinLimits}
 use Rattle.sa_plan.specs.Names.{names_of}
-use Rattle.sa_plan.specs.declared.prepared.Prepared.{Prepared}
 use Rattle.sa_plan.specs.declared.prepared.Work.TheVariants as work
 use Rattle.sa_prepare.specs.Prepared.{Prepares}
-use Rattle.sa_prepare.specs.Sound.{IsSoundWork}
 use Rattle.sa_desk.specs.declared.entry.Entry.{Entry}
 use Rattle.sa_desk.specs.Legal.{Sessions, given_of, IsLegal}
-use Rattle.sa_desk.specs.program.Course.{Given, Answer, prepared, refused, starved}
+use Rattle.sa_desk.specs.program.Course.{Given, Answer, prepared}
 use Rattle.sa_desk.specs.program.Prepares.{IsAnswer}
 use Rattle.sa_worker.specs.Holds.{IsSoundAnswer}
 use Rattle.sa_worker.specs.Sound.{GivesSound}

@@ -1,5 +1,5 @@
 -- The words of the command line.
-use Rattle.std.specs.Prelude.{◌≡◌, List, [], ◌∷◌, codes, String, string_bytes, ⊤}
+use Rattle.std.specs.Prelude.{◌≡◌, List, [], ◌∷◌, codes, String, string_bytes}
 use Rattle.std.specs.declared.alloc.Global.{Global}
 
 -- The words are the one word `step`.
