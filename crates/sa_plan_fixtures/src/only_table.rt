@@ -26,14 +26,14 @@ impl OnlyTable<'_> {
 }
 
 impl Kinds for OnlyTable<'_> {
-    ghost use Rattle.std.specs.Prelude.{[], ◌∷◌};
+    ghost use Rattle.std.specs.Prelude.{⊤, [], ◌∷◌};
     ghost use Rattle.sa_cond.specs.declared.cells.CellKind.TheVariants.{Text};
     ghost use Rattle.sa_plan.specs.Lawful.{column_kind};
     ghost use Rattle.sa_plan_fixtures.specs.OnlyTable.{IsColumn};
 
     ghost has_column = { λ only. IsColumn only.tables.now only.level.now };
 
-    ghost has_slot = { λ only number. ⊥ };
+    ghost has_slot = { λ only number. ⊤ };
 
     ghost column_kind = { λ only. column_kind only.tables.now (only.level.now ∷ []) };
 
