@@ -32,10 +32,10 @@ module _ (world : World) (view : View) (met : Meets world view.given.session vie
       let here : own.published ≡ (if view.given.session == own.terms.desk then own.published else 0) = rw same refl in
       here ∙ counted
 
-  pointed : (statement : Statement) (execution : Execution) (planned : Planned) (made : ℕ) (run : Progress) (number begin : ℕ)
-      → running statement.number statement.begin statement.turn execution.plan execution.tables ≡ running number begin view.began planned.plan view.given.tables
-      → IsRunAt world view run planned.plan made → ArePointed view own statement
-  pointed statement execution planned made run number begin is at =
+  pointed : (statement : Statement) (execution : Execution) (chosen : Planned) (made : ℕ) (run : Progress) (number begin : ℕ)
+      → running statement.number statement.begin statement.turn execution.plan execution.tables ≡ running number begin view.began chosen.plan view.given.tables
+      → IsRunAt world view run chosen.plan made → ArePointed view own statement
+  pointed statement execution chosen made run number begin is at =
       let began : statement.turn ≡ view.began = cc in record {
         points = made;
         turn = at.turn ∙ ap (λ turn. turn + made) (sym began);
@@ -45,9 +45,9 @@ module _ (world : World) (view : View) (met : Meets world view.given.session vie
   pointed_at : (stage : Stage) (begin : ℕ) (statement : Statement) (execution : Execution)
       → running statement.number statement.begin statement.turn execution.plan execution.tables ≡ outline_at view begin stage
       → KeepsAt world view stage → ArePointed view own statement
-  pointed_at (makes_steps planned made run) begin statement execution is keeps = pointed statement execution planned made run view.number begin is keeps.knows.0
-  pointed_at (stages.points planned made run) begin statement execution is keeps = pointed statement execution planned made run view.number begin is keeps.knows.0
-  pointed_at (ends_run planned made run given) begin statement execution is keeps = pointed statement execution planned made run view.number begin is keeps.knows.0
+  pointed_at (makes_steps chosen made run) begin statement execution is keeps = pointed statement execution chosen made run view.number begin is keeps.knows.0
+  pointed_at (stages.points chosen made run) begin statement execution is keeps = pointed statement execution chosen made run view.number begin is keeps.knows.0
+  pointed_at (ends_run chosen made run given) begin statement execution is keeps = pointed statement execution chosen made run view.number begin is keeps.knows.0
   pointed_at prepares begin statement execution is keeps = absurd cc
   pointed_at opens begin statement execution is keeps = absurd cc
   pointed_at stages.closes begin statement execution is keeps = absurd cc
@@ -75,8 +75,7 @@ module _ (world : World) (view : View) (met : Meets world view.given.session vie
     counted_planned statement execution is =
         let told = ap outline (sym is) ∙ outline-met world view.given.session met ∙ keeps.outline_is in
         let pointed = pointed_at view.stage keeps.begin statement execution told keeps in
-        let now = pointed.turn in
-        (
+        let now = pointed.turn in (
           pointed.points,
           (λ turn later. (
             (λ less. elim (cases_lt view.turn turn) [

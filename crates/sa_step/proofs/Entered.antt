@@ -73,7 +73,7 @@ module _ (desk : Contents) where
     made_in number closes = one_in Close
 
 -- An event that tells no number.
-IsSilent : (slot : (session turn : ℕ) → ℕ) → Terms → Event → Type 0
+abbrev IsSilent : (slot : (session turn : ℕ) → ℕ) → Terms → Event → Type 0
 IsSilent slot terms event = (phase : Phase) (place : ℕ) → IsNumbered slot terms phase place event
 
 module _ (slot : (session turn : ℕ) → ℕ) (terms : Terms) where
@@ -138,12 +138,12 @@ module _ (slot : (session turn : ℕ) → ℕ) (terms : Terms) where
       open_counted number turns true false = tt
       open_counted number turns false last = (counted, tt)
 
-      looked_counted : (number at looks turns : ℕ) (found : Phase) → AreCounted (map (entry_by desk stamp) (look_events (look_answer found at desk.published looks turns) number))
-      looked_counted number at looks turns closed = (tt, tt)
-      looked_counted number at looks turns idle = open_counted number turns (nat_lt desk.published at) (looks + 1 == turns)
-      looked_counted number at looks turns (unplanned statement) = open_counted number turns (nat_lt desk.published at) (looks + 1 == turns)
-      looked_counted number at looks turns (planned statement execution) = open_counted number turns (nat_lt desk.published at) (looks + 1 == turns)
-      looked_counted number at looks turns (serving statement execution steps turn) = open_counted number turns (nat_lt desk.published at) (looks + 1 == turns)
+      looked_counted : (number at count turns : ℕ) (found : Phase) → AreCounted (map (entry_by desk stamp) (look_events (look_answer found at desk.published count turns) number))
+      looked_counted number at count turns closed = (tt, tt)
+      looked_counted number at count turns idle = open_counted number turns (nat_lt desk.published at) (count + 1 == turns)
+      looked_counted number at count turns (unplanned statement) = open_counted number turns (nat_lt desk.published at) (count + 1 == turns)
+      looked_counted number at count turns (planned statement execution) = open_counted number turns (nat_lt desk.published at) (count + 1 == turns)
+      looked_counted number at count turns (serving statement execution steps turn) = open_counted number turns (nat_lt desk.published at) (count + 1 == turns)
 
       -- What a stage's call enters tells what is counted.
       pub made_counted : (view : View) (stage : Stage) → AreCounted (made desk stamp view.number (call_at view stage))
@@ -157,8 +157,8 @@ module _ (slot : (session turn : ℕ) → ℕ) (terms : Terms) where
       made_counted view (stages.kills kind i) = killed_counted view.number kind (kill_answer (phase desk))
       made_counted view (stages.waits i at count) = looked_counted view.number at (looks_before desk stamp view.number at) desk.terms.turns (phase desk)
       made_counted view (stages.looks_waiting i at count) = tt
-      made_counted view (stages.points planned made run) = served_counted (report_of run) (queue_of (phase desk))
-      made_counted view (stages.ends_run planned made run given) = ended_counted view.number (run_of itself given) (outcome_of itself given)
+      made_counted view (stages.points chosen points_made run) = served_counted (report_of run) (queue_of (phase desk))
+      made_counted view (stages.ends_run chosen points_made run given) = ended_counted view.number (run_of itself given) (outcome_of itself given)
       made_counted view stages.prepares = tt
-      made_counted view (stages.makes_steps planned made run) = tt
+      made_counted view (stages.makes_steps chosen points_made run) = tt
       made_counted view stages.done = tt

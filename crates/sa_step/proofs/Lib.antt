@@ -9,3 +9,4 @@ pub mod Entered
 pub mod Ordered
 pub mod Timed
 pub mod Passing
+pub mod Ordering

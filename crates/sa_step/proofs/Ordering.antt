@@ -45,7 +45,10 @@ module _ (gives : Answers) (all : AllSessions) (first : all.views ≡ first_view
           counted = λ desk least most. subst (AreEach (FindsCounted times (desk_at all.plain desk).terms) []) (sym (no_entries desk least most)) tt;
         };
         goes_on = λ session least most undone turn from.
-            ap (λ before. times session (before + turn)) (no_turns session least most) ∙ ap (λ count. slot count schedule session turn) (sym count_is);
+            let none = no_turns session least most in
+            let same : (view_in all.views session).turn + turn ≡ turn = omega (arith, none) in
+            let far : slot (length all.views) schedule session turn ≡ 0 + slot (length all.views) schedule session turn = omega arith in
+            ap (times session) same ∙ ap (λ count. slot count schedule session turn) (sym count_is) ∙ far;
       }
 
 -- The next place of a schedule.
@@ -55,7 +58,7 @@ pub on_time_named : (gives : Answers) (slots : (session turn : ℕ) → ℕ) (se
 on_time_named gives slots sessions schedule index session before after running were are there named least most on_time by =
     let parts : drop index schedule ≡ session ∷ drop (index + 1) schedule = drop_more schedule index 0 there ∙ ap (λ session. session ∷ drop (index + 1) schedule) named in
     on_time_next gives slots (slot sessions (session ∷ drop (index + 1) schedule)) (slot sessions (drop (index + 1) schedule)) index before after running (are ∙ sym were) session least
-    (omega (arith, most, were)) (subst (λ left. IsOnTime slots (slot sessions left) index before) parts on_time) 
+    (omega (arith, most, were)) (subst (λ left. IsOnTime slots (slot sessions left) index before) parts on_time)
     (subst (λ count. Passes count (slot sessions (session ∷ drop (index + 1) schedule)) (slot sessions (drop (index + 1) schedule)) session) (sym were) (Passes-named sessions (drop (index + 1) schedule) session)) by
 
 -- The next place of a round.
@@ -65,8 +68,14 @@ pub on_time_round : (gives : Answers) (slots : (session turn : ℕ) → ℕ) (se
 on_time_round gives slots sessions index place session before after running were are there named on_time by =
     let here = subst (λ session. GoesBy gives before session after) named by in
     on_time_next gives slots (in_round sessions index) (in_round sessions (index + 1)) place before after running (are ∙ sym were) (index + 1) (omega arith)
-    (omega (arith, were, there)) on_time 
+    (omega (arith, were, there)) on_time
     (subst (λ count. Passes count (in_round sessions index) (in_round sessions (index + 1)) (index + 1)) (sym were) (Passes-round sessions index there)) here
+
+-- Behind the schedule rounds begin.
+pub schedule_last : (slots : (session turn : ℕ) → ℕ) (sessions : ℕ) (schedule : List ℕ) (index : ℕ) (all : AllSessions) → length all.views ≡ sessions → length schedule ≤ index
+    → IsOnTime slots (slot sessions (drop index schedule)) index all → IsInRounds slots all
+schedule_last slots sessions schedule index all count whole on_time =
+    (index, subst (λ count. IsOnTime slots (slot count []) index all) (sym count) (subst (λ left. IsOnTime slots (slot sessions left) index all) (drop_all index schedule whole) on_time))
 
 -- A round begins, and ends.
 pub round_first : (slots : (session turn : ℕ) → ℕ) (sessions place : ℕ) (all : AllSessions) → IsOnTime slots (slot sessions []) place all → IsOnTime slots (in_round sessions 0) (place + 0) all

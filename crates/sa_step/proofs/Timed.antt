@@ -116,10 +116,10 @@ module _ (gives : Answers) (slot : (session turn : ℕ) → ℕ) (place : ℕ) (
 
   kept_desk : (desk : ℕ) → 1 ≤ desk → desk ≤ length before.plain.desks → IsDesk (place + 1) (desk_at before.plain desk)
   kept_desk desk low high =
-      let was = was_desk desk low high in
-      (
+      let was = was_desk desk low high in (
         All-weaker (λ entry. slot_of slot entry < place) (λ entry. slot_of slot entry < place + 1) (λ entry less. omega (arith, less)) (desk_at before.plain desk).journal was.0,
         was.1,
+        was.2,
       )
 
   called_desk : IsDesk (place + 1) (left found stamp ready.number (call_at ready ready.stage))
@@ -129,11 +129,10 @@ module _ (gives : Answers) (slot : (session turn : ℕ) → ℕ) (place : ℕ) (
       let next = left found stamp ready.number (call_at ready ready.stage) in
       let leaves = takes.call.leaves in
       let counts : AreEach (FindsCounted slot found.terms) [] (found.journal ++ entries) =
-      AreEach-append (FindsCounted slot found.terms) [] found.journal entries was.1.1
-      (made_counted slot found.terms found stamp (subst (λ place. IsCounted slot found.terms (phase found) place found.published) (sym placed) counted) ready ready.stage) in
-      (
+      AreEach-append (FindsCounted slot found.terms) [] found.journal entries was.2
+      (made_counted slot found.terms found stamp (subst (λ place. IsCounted slot found.terms (phase found) place found.published) (sym placed) counted) ready ready.stage) in (
         subst (λ journal. All (λ entry. slot_of slot entry < place + 1) journal) (sym leaves.grown) (behind_more slot place found.journal entries was.0 entered),
-        subst (AreEach (ComesLast slot) []) (sym leaves.grown) (rising_more slot place found.journal entries was.0 entered was.1.0),
+        subst (AreEach (ComesLast slot) []) (sym leaves.grown) (rising_more slot place found.journal entries was.0 entered was.1),
         subst (λ (terms : Terms). AreEach (FindsCounted slot terms) [] next.journal) (sym leaves.terms) (subst (AreEach (FindsCounted slot found.terms) []) (sym leaves.grown) counts),
       )
 
@@ -169,6 +168,6 @@ module _ (gives : Answers) (slot : (session turn : ℕ) → ℕ) (place : ℕ) (
       record {
         taken = λ other turn low high from to. taken_after other turn low (omega (arith, high, count)) from to;
         behind = λ desk low high. (desk_after desk low (omega (arith, high, same))).0;
-        rising = λ desk low high. (desk_after desk low (omega (arith, high, same))).1.0;
-        counted = λ desk low high. (desk_after desk low (omega (arith, high, same))).1.1;
+        rising = λ desk low high. (desk_after desk low (omega (arith, high, same))).1;
+        counted = λ desk low high. (desk_after desk low (omega (arith, high, same))).2;
       }
