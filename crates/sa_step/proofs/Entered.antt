@@ -1,5 +1,5 @@
 -- The entries of one call: all are of the call's turn, and a request or a wait tells what is published.
-use Rattle.std.proofs.Common.{◌≡◌, ℕ, ◌+◌, ◌==◌, if◌then◌else◌, Bool, true, false, List, [], ◌∷◌, ◌++◌, map, length, All, nat_lt, Option, Some, None, refl}
+use Rattle.std.proofs.Common.{◌≡◌, ℕ, ◌+◌, ◌==◌, if◌then◌else◌, Bool, true, false, List, [], ◌∷◌, ◌++◌, map, All, nat_lt, Option, Some, None, refl}
 use Rattle.std.proofs.lemmas.List.Elements.{All-nil, All-cons, All-append, All-map, All-head, All-tail}
 use Rattle.sa_ast.specs.declared.kind.AskKind.{AskKind}
 use Rattle.sa_ast.specs.declared.kind.KillKind.{KillKind}
@@ -24,7 +24,7 @@ use Rattle.sa_desk.specs.declared.stamp.Stamp.{Stamp}
 use Rattle.sa_desk.specs.State.{Terms, Phase, idle, unplanned, planned, serving, closed, queue_of}
 use Rattle.sa_desk.specs.Runs.{state_of}
 use Rattle.sa_desk.specs.Contents.{Contents, phase, state, entry_by, later}
-use Rattle.sa_desk.specs.Serving.{served_with, served_entries, report_of}
+use Rattle.sa_desk.specs.Serving.{served_with, report_of}
 use Rattle.sa_desk.specs.call.Ask.{ask_answer, ask_event}
 use Rattle.sa_desk.specs.call.End.{end_entry, end_entries, served_by, run_of, outcome_of}
 use Rattle.sa_desk.specs.call.Kill.{kill_answer, kill_event}

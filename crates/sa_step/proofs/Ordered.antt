@@ -1,5 +1,5 @@
 -- Entries that are made at one place come in order after those that were made before it.
-use Rattle.std.proofs.Common.{◌≡◌, ℕ, ◌+◌, ◌<◌, ◌≤◌, List, [], ◌∷◌, ◌++◌, All, refl, sym, subst, arith, append_assoc, append-nil}
+use Rattle.std.proofs.Common.{◌≡◌, ℕ, ◌+◌, ◌<◌, ◌≤◌, List, [], ◌∷◌, ◌++◌, All, sym, subst, arith, append_assoc, append-nil}
 use Rattle.std.proofs.lemmas.List.Elements.{All-head, All-tail, All-append, All-push, All-weaker}
 use Rattle.sa_desk.specs.declared.entry.Entry.{Entry}
 use Rattle.sa_step.specs.Schedule.{AreEach, slot_of, ComesLast}

@@ -1,12 +1,12 @@
 -- The sessions of a script are in order from the beginning on, and so are their journals in the end.
-use Rattle.std.proofs.Common.{◌≡◌, ℕ, ◌+◌, ◌-◌, ◌<◌, ◌≤◌, List, [], ◌∷◌, drop, length, map, All, slice_index_or, refl, sym, subst, ap, ◌∙◌, arith}
+use Rattle.std.proofs.Common.{◌≡◌, ℕ, ◌+◌, ◌-◌, ◌<◌, ◌≤◌, List, [], ◌∷◌, drop, length, map, All, slice_index_or, sym, subst, ap, ◌∙◌, arith}
 use Rattle.std.proofs.lemmas.List.{get_or-map, length-map, drop_more, drop_all}
 use Rattle.std.proofs.lemmas.List.FromFn.{get_or-map-range_with_len}
 use Rattle.std.proofs.lemmas.List.Elements.{All-nil}
 use Rattle.sa_desk.specs.declared.entry.Entry.{Entry}
 use Rattle.sa_desk.specs.State.{Terms}
 use Rattle.sa_desk.specs.Contents.{Contents}
-use Rattle.sa_desk.specs.Legal.{Sessions, given_of, journal_at}
+use Rattle.sa_desk.specs.Legal.{journal_at}
 use Rattle.sa_desk.specs.New.{no_desk}
 use Rattle.sa_desk.specs.Plain.{desk_at}
 use Rattle.sa_desk.specs.program.Course.{Given}

@@ -1,5 +1,5 @@
 -- A turn at its place leaves all sessions in order before the next place.
-use Rattle.std.proofs.Common.{◌≡◌, ◌≢◌, ℕ, ◌+◌, ◌-◌, ◌<◌, ◌≤◌, true, inl, inr, List, [], ◌++◌, length, All, slice_index_or, sym, subst, ap, ◌∙◌, arith}
+use Rattle.std.proofs.Common.{◌≡◌, ◌≢◌, ℕ, ◌+◌, ◌<◌, ◌≤◌, inl, inr, List, [], ◌++◌, length, All, slice_index_or, sym, subst, ap, ◌∙◌, arith}
 use Rattle.std.proofs.lemmas.Bool.{cases_eq, cases_lt}
 use Rattle.std.proofs.lemmas.List.Elements.{All-weaker}
 use Rattle.sa_desk.specs.declared.entry.Entry.{Entry}
@@ -7,7 +7,7 @@ use Rattle.sa_desk.specs.declared.stamp.Stamp.{Stamp}
 use Rattle.sa_desk.specs.State.{Terms}
 use Rattle.sa_desk.specs.Contents.{Contents, phase}
 use Rattle.sa_desk.specs.Legal.{given_of}
-use Rattle.sa_desk.specs.Plain.{IsPlain, desk_at, are_there, world_of}
+use Rattle.sa_desk.specs.Plain.{desk_at, world_of}
 use Rattle.sa_desk.specs.World.{World, Meets, next_stamp}
 use Rattle.sa_desk.specs.program.Course.{Given}
 use Rattle.sa_desk.specs.program.Prepares.{Answers}
@@ -20,7 +20,7 @@ use Rattle.sa_worker.proofs.working.Turned.{turn_works}
 use Rattle.sa_step.specs.Sessions.{AllSessions, AreRunning, view_in}
 use Rattle.sa_step.specs.Schedule.{AreEach, slot_of, ComesLast, IsCounted, FindsCounted}
 use Rattle.sa_step.specs.Turns.{TakesTurn}
-use Rattle.sa_step.specs.inner.Timely.{IsTimely, GoesOn}
+use Rattle.sa_step.specs.inner.Timely.{IsTimely}
 use Rattle.sa_step.proofs.Counting.{counted_own}
 use Rattle.sa_step.proofs.Driven.{are_called}
 use Rattle.sa_step.proofs.Entered.{made_in, made_counted}
