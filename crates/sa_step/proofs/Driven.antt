@@ -52,7 +52,7 @@ module _ (gives : Answers) (view later : View) where
   works_active undone work = work_active view.stage refl undone work
 
 -- Sessions and desks that are there may be called.
-are_called : (plain : Plain) (desk session : ℕ) → 1 ≤ desk → desk ≤ length plain.desks → 1 ≤ session → session ≤ length plain.desks → are_there plain desk session ≡ true
+pub are_called : (plain : Plain) (desk session : ℕ) → 1 ≤ desk → desk ≤ length plain.desks → 1 ≤ session → session ≤ length plain.desks → are_there plain desk session ≡ true
 are_called plain desk session desk_least desk_most session_least session_most = grind (arith, nat_tests, common_steps)
 
 -- the sessions go on where each of them holds the same

@@ -1,5 +1,5 @@
 -- What a turn of one of the sessions of a script asks for and leaves, as the code has it.
-use Rattle.std.proofs.Common.{◌≡◌, ◌≢◌, ℕ, ◌+◌, ◌-◌, ◌≤◌, true, length, slice_index_or, slice_set, sym, subst, ◌∙◌, arith}
+use Rattle.std.proofs.Common.{◌≡◌, ◌≢◌, ℕ, ◌+◌, ◌-◌, ◌≤◌, true, length, slice_index_or, slice_set, sym, subst, ap, ◌∙◌, arith, get_or-set_same, get_or-set_other}
 use Rattle.std.proofs.lemmas.List.{get_or_default}
 use Rattle.sa_desk.specs.Plain.{Plain, IsPlain, are_there, world_of}
 use Rattle.sa_desk.specs.World.{World, IsCall, Meets, next_stamp}
@@ -12,7 +12,8 @@ use Rattle.sa_worker.specs.Keeps.{Keeps}
 use Rattle.sa_step.specs.Sessions.{AllSessions, AreRunning, view_in}
 use Rattle.sa_desk.specs.Contents.{Contents}
 use Rattle.sa_desk.specs.declared.stamp.Stamp.{Stamp}
-use Rattle.sa_step.proofs.Driven.{called_there, meets, turned_running, works_active}
+use Rattle.sa_step.specs.Turns.{TakesTurn}
+use Rattle.sa_step.proofs.Driven.{nobody, called_there, meets, turned_running, works_active}
 use Rattle.sa_worker.proofs.working.Turned.{turn_taken}
 use Rattle.sa_worker.proofs.working.Fixed.{given_works}
 
@@ -59,3 +60,25 @@ module _ (gives : Answers) (all shown : AllSessions) (seen : all ≡ shown) (run
       subst (λ all. next.turn ≡ (view_in all.views session).turn + 1) seen
       (turn_taken gives (view_in all.views session) later next works_own
       (works_active gives (view_in all.views session) later (subst (λ all. (view_in all.views session).stage ≢ done) (sym seen) undone) works_own) desk stamp is)
+
+  -- All that the turn does.
+  pub took : (view_in shown.views session).stage ≢ done → IsPlain all.plain → (plain : Plain) (next : View) → length plain.desks ≡ length all.plain.desks
+      → (let world = world_of all.plain in let desk = world.contents (desk_at later later.stage) in let stamp = next_stamp world (me_of later) in
+      IsCall world (world_of plain) (desk_at later later.stage) later.given.session (made desk stamp later.number (call_at later later.stage)) (left desk stamp later.number (call_at later later.stage))
+      → next ≡ next_view later desk stamp → TakesTurn gives shown session (record { script = all.script; plain = plain; views = slice_set all.views (session - 1) next }))
+  took undone sound plain next count call is =
+      let most = most_all in
+      let placed = get_or-set_same all.views (session - 1) next nobody (omega (arith, least, most)) in
+      let taken : TakesTurn gives all session (record { script = all.script; plain = plain; views = slice_set all.views (session - 1) next }) = record {
+        undone = subst (λ all. (view_in all.views session).stage ≢ done) (sym seen) undone;
+        plain = sound;
+        same = count;
+        ready = later;
+        work = works_own;
+        allowed = allowed_later sound;
+        call = call;
+        next = placed ∙ is;
+        turns = ap (λ (view : View). view.turn) placed ∙ turned_later undone next _ _ is ∙ ap (λ (all : AllSessions). (view_in all.views session).turn + 1) (sym seen);
+        others = λ other low apart. get_or-set_other all.views (session - 1) (other - 1) next nobody (λ same. apart (omega (arith, same, least, low)));
+      } in
+      subst (λ shown. TakesTurn gives shown session (record { script = all.script; plain = plain; views = slice_set all.views (session - 1) next })) seen taken

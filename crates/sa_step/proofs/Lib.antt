@@ -4,3 +4,9 @@ pub mod StartLemmas
 pub mod Starting
 pub mod Remaining
 pub mod Rounds
+pub mod Counting
+pub mod Entered
+pub mod Ordered
+pub mod Timed
+pub mod Passing
+pub mod Ordering

@@ -2,6 +2,8 @@
 use Rattle.std.proofs.Common.{◌≡◌, ℕ, ◌+◌, ◌-◌, ◌*◌, ◌<◌, ◌≤◌, ◌==◌, Bool, true, false, inl, inr, List, [], ◌∷◌, length, drop, All, slice_index, slice_index_or, refl, sym, subst, ap, ◌∙◌, arith}
 use Rattle.std.proofs.lemmas.Bool.{cases_eq, eq-eqb, ne_eqb}
 use Rattle.std.proofs.lemmas.List.{get_or_default, get_or-drop}
+use Rattle.std.proofs.lemmas.List.Elements.{All-map}
+use Rattle.std.specs.List.{range_with_len}
 use Rattle.std.proofs.lemmas.List.FromFn.{get_or-map-range_with_len, length-map-range_with_len}
 use Rattle.sa_meaning.specs.Data.{RunData}
 use Rattle.sa_desk.specs.Contents.{Contents, IsSound}
@@ -140,3 +142,9 @@ pub started : (gives : Answers) (script : Sessions) → MayStart script → AreS
     → (tables : RunData) (texts : List (List (List ℕ))) (views : List View) → tables ≡ script.tables → texts ≡ script.texts → views ≡ first_views script
     → AreRunning gives (record { script = record { tables = tables; texts = texts; quantum = script.quantum; turns = script.turns }; plain = plain; views = views })
 started gives script start sound plain desks first tables texts views same_tables same_texts same_views = rw (same_tables, same_texts, same_views) (starts_running gives script start sound plain desks first)
+
+-- Nothing is entered yet.
+pub starts_empty : (texts : List (List (List ℕ))) (quantum turns : ℕ) (desks : List Contents) → desks ≡ desks_of texts quantum turns → All (λ (desk : Contents). desk.journal ≡ []) desks
+starts_empty texts quantum turns desks is =
+    subst (All (λ (desk : Contents). desk.journal ≡ [])) (sym is)
+    (All-map (λ (desk : Contents). desk.journal ≡ []) (desk_in texts quantum turns) (range_with_len 1 (length texts)) (λ k d there. refl))

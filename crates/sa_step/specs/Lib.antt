@@ -1,3 +1,5 @@
 pub mod Sessions
 pub mod Remaining
+pub mod Turns
+pub mod Schedule
 pub mod inner

@@ -1,9 +1,10 @@
-ghost use Rattle.std.specs.Prelude.{◌≡◌, ◌≢◌, ℕ, ◌+◌, ◌≤◌, ◌↔◌, [], length, map, IsTrue, IfOk};
+ghost use Rattle.std.specs.Prelude.{◌≡◌, ◌≢◌, ℕ, ◌+◌, ◌≤◌, ◌↔◌, [], length, map, All, IsTrue, IfOk};
 ghost use Rattle.std.specs.Arc.{arc_value};
 ghost use Rattle.sa_desk.specs.Plain.{IsPlain};
 ghost use Rattle.sa_worker.specs.View.{done};
 ghost use Rattle.sa_worker.specs.Answered.{answer_at};
 ghost use Rattle.sa_step.specs.Sessions.{AreRunning, AreSound, MayStart, first_views, view_in};
+ghost use Rattle.sa_step.specs.Turns.{TakesTurn};
 
 use crate::starts::{new_desks, new_workers};
 use sa_desk::{Journals, PlainDesks};
@@ -81,6 +82,7 @@ impl Sessions {
           turns = turns;
         }) }
         ensures first { IfOk result (λ sessions. sessions.views ≡ first_views sessions.script) }
+        ensures empty { IfOk result (λ sessions. All (λ desk. desk.journal ≡ []) sessions.plain.desks) }
         ensures running { IfOk result (AreRunning (P.answers prepare.now)) }
     {
         // what they are asked is for contracts alone
@@ -134,6 +136,7 @@ impl Sessions {
             ≡ (view_in self.old.views session).turn + 1 }
         ensures others { (other : ℕ) → 1 ≤ other → other ≢ session →
             view_in self.new.views other ≡ view_in self.old.views other }
+        ensures taken { TakesTurn (P.answers prepare.now) self.old session self.new }
     {
         // what their number is told with: that each session meets each desk
         let _desks = self.desks.len();

@@ -1,9 +1,12 @@
-ghost use Rattle.std.specs.Prelude.{◌≡◌, ◌<◌, ◌≤◌, ◌||◌, false, length, All, IfOk, IsTrue};
+ghost use Rattle.std.specs.Prelude.{◌≡◌, ℕ, ◌<◌, ◌≤◌, ◌||◌, false, length, All, IfOk, IsTrue};
 ghost use Rattle.std.specs.Arc.{arc_value};
 ghost use Rattle.sa_desk.specs.Legal.{IsLegal};
 ghost use Rattle.sa_worker.specs.View.{done};
 ghost use Rattle.sa_step.specs.Sessions.{MayStart, AreSound, AreRunning, view_in};
 ghost use Rattle.sa_step.specs.Remaining.{remaining, AreDone, IsSession};
+ghost use Rattle.sa_step.specs.Schedule.{InSchedule, slot};
+ghost use Rattle.sa_step.specs.Turns.{GoesBy};
+ghost use Rattle.sa_step.specs.inner.Timely.{IsOnTime, IsInRounds};
 
 use crate::sessions::Sessions;
 use sa_desk::Journals;
@@ -47,6 +50,12 @@ pub fn step_sessions<P: Preparer>(
       quantum = quantum;
       turns = turns;
     })) }
+    ensures in_schedule { IfOk result (InSchedule (record {
+      tables = arc_value tables;
+      texts = statements.items;
+      quantum = quantum;
+      turns = turns;
+    }) schedule.now) }
 {
     let mut sessions = Sessions::new(alloc, prepare, tables, statements, quantum, turns)?;
     take_schedule(&mut sessions, prepare, schedule);
@@ -60,6 +69,9 @@ fn take_schedule<P: Preparer>(sessions: &mut Sessions, prepare: &P, schedule: &[
     requires running { AreRunning (P.answers prepare.now) sessions.old }
     ensures running { AreRunning (P.answers prepare.now) sessions.new }
     ensures script { sessions.new.script ≡ sessions.old.script }
+    ensures timed { (slots : ℕ → ℕ → ℕ) →
+        IsOnTime slots (slot (length sessions.old.views) schedule.now) 0 sessions.old →
+        IsInRounds slots sessions.new }
 {
     for session in schedule {
         let _taken = take_turn(sessions, prepare, *session);
@@ -72,6 +84,8 @@ fn take_rounds<P: Preparer>(sessions: &mut Sessions, prepare: &P)
     ensures running { AreRunning (P.answers prepare.now) sessions.new }
     ensures script { sessions.new.script ≡ sessions.old.script }
     ensures finished { AreDone sessions.new.views }
+    ensures timed { (slots : ℕ → ℕ → ℕ) → IsInRounds slots sessions.old
+        → IsInRounds slots sessions.new }
 {
     while take_round(sessions, prepare) {}
 }
@@ -83,6 +97,8 @@ fn take_round<P: Preparer>(sessions: &mut Sessions, prepare: &P) -> bool
     ensures script { sessions.new.script ≡ sessions.old.script }
     ensures some { IsTrue result → remaining sessions.new.views < remaining sessions.old.views }
     ensures none { result ≡ false → AreDone sessions.new.views }
+    ensures timed { (slots : ℕ → ℕ → ℕ) → IsInRounds slots sessions.old
+        → IsInRounds slots sessions.new }
 {
     let mut any = false;
     for index in 0..sessions.len() {
@@ -102,6 +118,7 @@ fn take_turn<P: Preparer>(sessions: &mut Sessions, prepare: &P, session: u32) ->
     ensures some { IsTrue result → remaining sessions.new.views < remaining sessions.old.views }
     ensures none { result ≡ false
         → (sessions.new ≡ sessions.old) × ((view_in sessions.old.views session).stage ≡ done) }
+    ensures by { GoesBy (P.answers prepare.now) sessions.old session sessions.new }
 {
     if sessions.is_done(session) {
         return false;

@@ -2,7 +2,7 @@ use Rattle.std.proofs.Common.{ap, ◌∙◌, ◌-◌, length, arith, get_or-set_
 use Rattle.sa_worker.specs.View.{View}
 use Rattle.sa_step.specs.Sessions.{AllSessions}
 use Rattle.sa_step.proofs.Driven.{nobody}
-use Rattle.sa_step.proofs.Driving.{turned_later, keeps_later, allowed_later, met_later, running_later}
+use Rattle.sa_step.proofs.Driving.{took, turned_later, keeps_later, allowed_later, met_later, running_later}
 use Rattle.sa_step.proofs.sessions.Sessions.turn.Goals as goal
 
 pub turn-requires-clause-keeps : goal.turn-requires-clause-keeps
@@ -35,3 +35,9 @@ returns-clause-turns g c =
     ∙ turned_later (g.P.Preparer.answers c.args.prepare.now) _ c.args.self.now c.self.view_is c.requires.running c.args.session c.requires.least c.requires.most
     c.index_mut-worker.result.now c.work-desk.new.self c.index_mut-worker.ensures.value c.work-desk.ensures.works c.work-desk.ensures.keeps
     c.requires.undone c.turn.new.self _ _ c.turn.ensures.next
+
+pub returns-clause-taken : goal.returns-clause-taken
+returns-clause-taken g c =
+    took (g.P.Preparer.answers c.args.prepare.now) _ c.args.self.now c.self.view_is c.requires.running c.args.session c.requires.least c.requires.most
+    c.index_mut-worker.result.now c.work-desk.new.self c.index_mut-worker.ensures.value c.work-desk.ensures.works c.work-desk.ensures.keeps
+    c.requires.undone c.len-desks.ensures.plain c.turn.new.desks c.turn.new.self c.turn.ensures.same c.turn.ensures.call c.turn.ensures.next

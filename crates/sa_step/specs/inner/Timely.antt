@@ -1,0 +1,37 @@
+-- How the sessions stand between two places of a schedule.
+use Rattle.std.specs.Prelude.{◌≡◌, ◌≢◌, ℕ, ◌+◌, ◌-◌, ◌*◌, ◌<◌, ◌≤◌, List, [], length, All, nat_lt, if◌then◌else◌}
+use Rattle.sa_desk.specs.Plain.{desk_at}
+use Rattle.sa_worker.specs.View.{View, done}
+use Rattle.sa_step.specs.Sessions.{AllSessions, view_in}
+use Rattle.sa_step.specs.Schedule.{slot, AreEach, slot_of, ComesLast, FindsCounted}
+
+-- Before a place: the turns that were taken lie behind it, and so do all entries, which are in order.
+pub record IsTimely (slot : (session turn : ℕ) → ℕ) (place : ℕ) (all : AllSessions) : Type 0 where
+  pub taken : (session turn : ℕ) → 1 ≤ session → session ≤ length all.views → 1 ≤ turn
+      → turn ≤ (view_in all.views session).turn → slot session turn < place
+  pub behind : (desk : ℕ) → 1 ≤ desk → desk ≤ length all.plain.desks
+      → All (λ entry. slot_of slot entry < place) (desk_at all.plain desk).journal
+  pub rising : (desk : ℕ) → 1 ≤ desk → desk ≤ length all.plain.desks
+      → AreEach (ComesLast slot) [] (desk_at all.plain desk).journal
+  pub counted : (desk : ℕ) → 1 ≤ desk → desk ≤ length all.plain.desks →
+      AreEach (FindsCounted slot (desk_at all.plain desk).terms) [] (desk_at all.plain desk).journal
+
+-- The turns that are left to a session come so many places later.
+abbrev pub GoesOn : (slot rest : (session turn : ℕ) → ℕ) → (place : ℕ) → List View → Type 0
+GoesOn slot rest place views =
+    (session : ℕ) → 1 ≤ session → session ≤ length views → (view_in views session).stage ≢ done →
+    (turn : ℕ) → 1 ≤ turn
+    → slot session ((view_in views session).turn + turn) ≡ place + rest session turn
+
+pub record IsOnTime (slot rest : (session turn : ℕ) → ℕ) (place : ℕ) (all : AllSessions) : Type 0 where
+  pub timely : IsTimely slot place all
+  pub goes_on : GoesOn slot rest place all.views
+
+-- Before some place, at which rounds begin.
+abbrev pub IsInRounds : (slots : (session turn : ℕ) → ℕ) → AllSessions → Type 0
+IsInRounds slots all = (place : ℕ) × IsOnTime slots (slot (length all.views) []) place all
+
+-- how many places later a turn comes in a round of so many sessions, this many of which have had theirs
+abbrev pub in_round : (sessions index : ℕ) → (session turn : ℕ) → ℕ
+in_round sessions index session turn =
+    (if nat_lt index session then turn - 1 else turn) * sessions + (session - 1) - index
