@@ -21,6 +21,7 @@ use Rattle.sa_transcript.specs.Transcript.{CanTell, transcript}
 use Rattle.sa_transcript.specs.FaultLine.{fault_text}
 use Rattle.sa_step.specs.Sessions.{MayStart, AreSound}
 use Rattle.sa_step.specs.Remaining.{IsSession}
+use Rattle.sa_step.specs.Schedule.{InSchedule}
 use Rattle.sa_legal.specs.Shows.{ShowsLawful}
 use Rattle.sa_legal.proofs.Telling.{can_be_told}
 use Rattle.sa_prepare.proofs.SoundWork.{prepared_is_sound}
@@ -77,8 +78,21 @@ module _ (script : Script) (ready tables : List Table) (texts : List (List (List
       subst (λ names. CanTell names journals) (sym same)
       (can_be_told (Prepares script.tables) (sessions_of script) journals (are_sound script.tables (sessions_of script) refl) (shows_lawful script.tables) legal_here)
 
-  pub tells_journals : (names : List TableNames) (text : List ℕ) → names ≡ names_of script.tables → text ≡ transcript names journals → TellsJournals script text
-  tells_journals names text same told = record { journals = journals; legal = legal_here; told = told ∙ ap (λ names. transcript names journals) same }
+  scheduled_here : (schedule : List ℕ) → schedule ≡ script.schedule → InSchedule (record { tables = tables; texts = texts; quantum = script.quantum; turns = script.turns }) schedule journals
+      → InSchedule (sessions_of script) script.schedule journals
+  scheduled_here schedule schedule_same scheduled =
+      subst (λ texts. InSchedule (record { tables = script.tables; texts = texts; quantum = script.quantum; turns = script.turns }) script.schedule journals) texts_same
+      (subst (λ tables. InSchedule (record { tables = tables; texts = texts; quantum = script.quantum; turns = script.turns }) script.schedule journals) tables_same
+      (subst (λ schedule. InSchedule (record { tables = tables; texts = texts; quantum = script.quantum; turns = script.turns }) schedule journals) schedule_same scheduled))
+
+  pub tells_journals : (schedule : List ℕ) → schedule ≡ script.schedule → InSchedule (record { tables = tables; texts = texts; quantum = script.quantum; turns = script.turns }) schedule journals
+      → (names : List TableNames) (text : List ℕ) → names ≡ names_of script.tables → text ≡ transcript names journals → TellsJournals script text
+  tells_journals schedule schedule_same scheduled names text same told = record {
+    journals = journals;
+    legal = legal_here;
+    in_schedule = scheduled_here schedule schedule_same scheduled;
+    told = told ∙ ap (λ names. transcript names journals) same;
+  }
 
 -- An input with a fault is no script, and its line tells the fault.
 pub is_refusal : ((text : List ℕ) (answer other : Result Script ScriptFault) → IsScriptOf text answer → IsScriptOf text other →

@@ -8,6 +8,7 @@ use Rattle.sa_plan.specs.Names.{names_of}
 use Rattle.sa_prepare.specs.Prepared.{Prepares}
 use Rattle.sa_desk.specs.declared.entry.Entry.{Entry}
 use Rattle.sa_desk.specs.Legal.{Sessions, IsLegal}
+use Rattle.sa_step.specs.Schedule.{InSchedule}
 use Rattle.sa_transcript.specs.Transcript.{transcript}
 use Rattle.sa_transcript.specs.FaultLine.{fault_text}
 
@@ -20,10 +21,12 @@ sessions_of script = record {
   turns = script.turns;
 }
 
--- The text is what is printed for journals that are legal for the script's sessions.
+-- The text is what is printed for journals that are legal for the script's sessions, and in the order
+-- of its schedule.
 pub record TellsJournals (script : Script) (text : List ℕ) : Type 0 where
   pub journals : List (List Entry)
   pub legal : IsLegal (Prepares script.tables) (sessions_of script) journals
+  pub in_schedule : InSchedule (sessions_of script) script.schedule journals
   pub told : text ≡ transcript (names_of script.tables) journals
 
 -- No script has these bytes.
