@@ -1,13 +1,15 @@
 -- After a turn of a session nobody waits at its own desk.
-use Rattle.std.proofs.Common.{◌≡◌, ◌≢◌, ℕ, ◌+◌, ◌==◌, if◌then◌else◌, Bool, true, false, List, [], ◌∷◌, ◌++◌, map, length, All, nat_lt, Option, Some, None, refl, sym, subst, ap, ◌∙◌, arith}
+use Rattle.std.proofs.Common.{◌≡◌, ◌≢◌, ℕ, ◌+◌, ◌==◌, if◌then◌else◌, Bool, true, false, List, [], ◌∷◌, map, All, nat_lt, Option, refl, sym, subst, ap, arith}
 use Rattle.std.specs.Prelude.{⊤}
 use Rattle.std.proofs.lemmas.List.Elements.{All-nil, All-cons}
 use Rattle.sa_ast.specs.declared.kind.AskKind.{AskKind}
 use Rattle.sa_ast.specs.declared.kind.KillKind.{KillKind}
+use Rattle.sa_plan.specs.declared.plan.Plan.{Plan}
+use Rattle.sa_meaning.specs.Data.{RunData}
 use Rattle.sa_meaning.specs.Progress.{Progress}
 use Rattle.sa_desk.specs.declared.entry.Entry.{Entry}
 use Rattle.sa_desk.specs.declared.entry.Event.{Event}
-use Rattle.sa_desk.specs.declared.entry.Event.TheVariants.{Gone}
+use Rattle.sa_desk.specs.declared.entry.Event.TheVariants.{Begin, Gone, Close}
 use Rattle.sa_desk.specs.declared.answer.Killed.{Killed}
 use Rattle.sa_desk.specs.declared.answer.Killed.TheVariants as killed
 use Rattle.sa_desk.specs.declared.answer.Looked.TheVariants as looked
@@ -30,9 +32,10 @@ use Rattle.sa_desk.specs.call.Kill.{kill_answer, kill_event}
 use Rattle.sa_desk.specs.call.Look.{look_answer, look_events, looks_before}
 use Rattle.sa_desk.specs.call.Poll.{polled, poll_events}
 use Rattle.sa_desk.specs.call.Withdraw as withdraw
+use Rattle.sa_desk.specs.program.Course.{text_of, course_of}
 use Rattle.sa_desk.specs.program.Turn.{itself, made}
 use Rattle.sa_desk.proofs.Append.{state_after-append}
-use Rattle.sa_worker.specs.View.{View, Stage, IsActive, call_at, outline_at}
+use Rattle.sa_worker.specs.View.{View, Stage, IsActive, call_at, outline_at, text_at, plan_in, tables_in}
 use Rattle.sa_worker.specs.View as stages
 use Rattle.sa_step.proofs.Waiting.{IsNoRequest, none_wait, all_served}
 
@@ -103,9 +106,9 @@ module _ (desk : Contents) (stamp : Stamp) where
   none_quiet : AreQuiet []
   none_quiet = All-nil (λ (entry : Entry). IsNoRequest entry.event)
 
-  begun_quiet : (doomed : Bool) (number : ℕ) (event : Event) → IsNoRequest event → IsNoRequest (if doomed then Gone number else event)
-  begun_quiet true number event is = tt
-  begun_quiet false number event is = is
+  begun_quiet : (doomed : Bool) (number : ℕ) (text : List ℕ) (plan : Option Plan) (tables : Option RunData) → AreQuiet (entry_by desk stamp (if doomed then Gone number else Begin number text 0 plan tables) ∷ [])
+  begun_quiet true number text plan tables = one_quiet (Gone number) tt
+  begun_quiet false number text plan tables = one_quiet (Begin number text 0 plan tables) tt
 
   polled_quiet : (number : ℕ) (polled : Polled) → AreQuiet (map (entry_by desk stamp) (poll_events polled number))
   polled_quiet number (answer.Taken report begin) = one_quiet _ tt
@@ -148,16 +151,16 @@ module _ (desk : Contents) (stamp : Stamp) where
   -- A call of the desk's own session leaves nobody waiting.
   pub made_empties : (view : View) (stage : Stage) → IsActive stage → RunsOn (made desk stamp view.number (call_at view stage)) → (HasNoRun stage → IsUnplanned (phase desk))
       → Emptied (made desk stamp view.number (call_at view stage))
-  made_empties view stages.opens active runs plain = quiet_empties _ runs (one_quiet _ (begun_quiet (state desk).doomed view.number _ tt)) (plain tt)
-  made_empties view stages.closes active runs plain = quiet_empties _ runs (one_quiet _ tt) (plain tt)
+  made_empties view stages.opens active runs plain = quiet_empties (made desk stamp view.number (call_at view stages.opens)) runs (begun_quiet (state desk).doomed view.number (text_of (text_at view) view.answer) (plan_in (course_of view.given view.settings view.answer)) (tables_in view.given (course_of view.given view.settings view.answer))) (plain tt)
+  made_empties view stages.closes active runs plain = quiet_empties (made desk stamp view.number (call_at view stages.closes)) runs (one_quiet Close tt) (plain tt)
   made_empties view (stages.ends result) active runs plain = ended_empties view.number (run_of itself (Plain result)) (outcome_of itself (Plain result))
-  made_empties view (stages.asks kind i) active runs plain = quiet_empties _ runs (one_quiet _ (asked_quiet view.number kind view.given.turns (phase desk) (plain tt))) (plain tt)
-  made_empties view (stages.polls kind i count) active runs plain = quiet_empties _ runs (polled_quiet view.number (polled desk stamp view.number)) (plain tt)
-  made_empties view (stages.looks_asking kind i count) active runs plain = quiet_empties _ runs none_quiet (plain tt)
-  made_empties view (stages.withdraws kind i count) active runs plain = quiet_empties _ runs (withdrawn_quiet view.number (withdraw.withdrawn desk stamp view.number)) (plain tt)
-  made_empties view (stages.kills kind i) active runs plain = quiet_empties _ runs (killed_quiet view.number kind (kill_answer (phase desk))) (plain tt)
-  made_empties view (stages.waits i at count) active runs plain = quiet_empties _ runs (looked_quiet view.number at (looks_before desk stamp view.number at) desk.terms.turns (phase desk)) (plain tt)
-  made_empties view (stages.looks_waiting i at count) active runs plain = quiet_empties _ runs none_quiet (plain tt)
+  made_empties view (stages.asks kind i) active runs plain = quiet_empties (made desk stamp view.number (call_at view (stages.asks kind i))) runs (one_quiet (ask_event (ask_answer (phase desk)) view.number kind desk.published view.given.turns) (asked_quiet view.number kind view.given.turns (phase desk) (plain tt))) (plain tt)
+  made_empties view (stages.polls kind i count) active runs plain = quiet_empties (made desk stamp view.number (call_at view (stages.polls kind i count))) runs (polled_quiet view.number (polled desk stamp view.number)) (plain tt)
+  made_empties view (stages.looks_asking kind i count) active runs plain = quiet_empties (made desk stamp view.number (call_at view (stages.looks_asking kind i count))) runs none_quiet (plain tt)
+  made_empties view (stages.withdraws kind i count) active runs plain = quiet_empties (made desk stamp view.number (call_at view (stages.withdraws kind i count))) runs (withdrawn_quiet view.number (withdraw.withdrawn desk stamp view.number)) (plain tt)
+  made_empties view (stages.kills kind i) active runs plain = quiet_empties (made desk stamp view.number (call_at view (stages.kills kind i))) runs (killed_quiet view.number kind (kill_answer (phase desk))) (plain tt)
+  made_empties view (stages.waits i at count) active runs plain = quiet_empties (made desk stamp view.number (call_at view (stages.waits i at count))) runs (looked_quiet view.number at (looks_before desk stamp view.number at) desk.terms.turns (phase desk)) (plain tt)
+  made_empties view (stages.looks_waiting i at count) active runs plain = quiet_empties (made desk stamp view.number (call_at view (stages.looks_waiting i at count))) runs none_quiet (plain tt)
   made_empties view (stages.points chosen so_many run) active runs plain = all_served desk.terms desk (report_of run) stamp (queue_of (phase desk)) (state desk) refl runs
   made_empties view (stages.ends_run chosen so_many run given) active runs plain = ended_empties view.number (run_of itself given) (outcome_of itself given)
   made_empties view stages.prepares active runs plain = absurd active

@@ -1,5 +1,5 @@
 -- Which requests a call leaves unanswered: those that it ends itself.
-use Rattle.std.proofs.Common.{◌≡◌, ℕ, ◌+◌, ◌==◌, if◌then◌else◌, Bool, true, false, List, [], ◌∷◌, ◌++◌, map, nat_lt, Option, Some, None, refl}
+use Rattle.std.proofs.Common.{◌≡◌, ℕ, ◌+◌, ◌==◌, if◌then◌else◌, Bool, true, false, List, [], ◌∷◌, map, nat_lt, Option, Some, None, refl}
 use Rattle.sa_ast.specs.declared.kind.AskKind.{AskKind}
 use Rattle.sa_ast.specs.declared.kind.KillKind.{KillKind}
 use Rattle.sa_count.specs.declared.report.Report.{Report}

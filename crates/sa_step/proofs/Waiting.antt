@@ -1,8 +1,8 @@
 -- Each request that waits has its entry, and which requests wait after a call.
-use Rattle.std.proofs.Common.{◌≡◌, ◌≢◌, ℕ, ◌+◌, ◌<◌, ◌≤◌, Bool, true, false, cond, not, ◌==◌, List, [], ◌∷◌, ◌++◌, length, filter, All, Any, slice_index_or, refl, sym, subst, ap, ◌∙◌, arith, length-append, append_assoc, append-nil}
+use Rattle.std.proofs.Common.{◌≡◌, ◌≢◌, ℕ, Bool, not, ◌==◌, List, [], ◌∷◌, ◌++◌, All, Any, refl, sym, subst, ◌∙◌, arith, length-append, append_assoc, append-nil}
 use Rattle.std.specs.Prelude.{⊤}
 use Rattle.std.proofs.lemmas.List.{get_or_append_left}
-use Rattle.std.proofs.lemmas.List.Elements.{All-nil, All-cons, All-head, All-tail, All-append, All-push, All-weaker, All-filter}
+use Rattle.std.proofs.lemmas.List.Elements.{All-head, All-tail, All-push, All-weaker, All-filter}
 use Rattle.std.proofs.lemmas.List.Quantifiers.{Any-push}
 use Rattle.sa_ast.specs.declared.kind.AskKind.{AskKind}
 use Rattle.sa_count.specs.declared.report.Report.{Report}
@@ -23,7 +23,7 @@ use Rattle.sa_desk.proofs.Changes.{Change, keeps, asks, answers, takes, drops, c
 
 -- Whatever stands there still does.
 pub Any-more : {X : Type 0} (P : X → Type 0) (xs ys : List X) → Any P xs → Any P (xs ++ ys)
-Any-more P xs ys (k, x, there, is, p) = let long = length-append xs ys in (k, x, omega (arith, there, long) xs ys x k there ∙ is, p)
+Any-more P xs ys (k, x, there, is, p) = let long = length-append xs ys in (k, x, omega (arith, there, long), get_or_append_left xs ys x k there ∙ is, p)
 
 pub Any-weaker : {X : Type 0} (P Q : X → Type 0) → ((x : X) → P x → Q x) → (xs : List X) → Any P xs → Any Q xs
 Any-weaker P Q more xs (k, x, there, is, p) = (k, x, there, is, more x p)

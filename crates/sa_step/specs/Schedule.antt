@@ -69,12 +69,12 @@ module _ (slot : (session turn : ℕ) → ℕ) where
     abbrev pub IsUnseen : List Entry → Entry → (number : ℕ) → Type 0
     IsUnseen before entry number = Any (λ was. (was.actor ≡ entry.actor) × IsRequest number was.event × Rests (slot_of was) (slot_of entry)) before
 
+    -- A request that is spent or withdrawn is unseen.
     abbrev pub IsLeft : List Entry → Entry → Event → Type 0
     IsLeft before entry (Spent number turns) = IsUnseen before entry number
     IsLeft before entry (Withdrawn number) = IsUnseen before entry number
     IsLeft before entry event = ⊤
 
-    -- What ends unanswered wasn't seen.
     abbrev pub LeavesUnseen : List Entry → Entry → Type 0
     LeavesUnseen before entry = IsLeft before entry entry.event
 
@@ -85,7 +85,8 @@ slots sessions schedule = slot (length sessions.texts) schedule
 abbrev pub desk_terms : Sessions → ℕ → Terms
 desk_terms sessions desk = terms_of (given_of sessions desk) desk
 
--- The journals of a script are in the order of a schedule.
+-- The journals of a script are in the order of a schedule: so they stand, and this they tell. Nothing is said of which poll takes an
+-- answer, which look ends a wait, and how soon a killed statement sees that it is.
 pub record InSchedule (sessions : Sessions) (schedule : List ℕ) (journals : List (List Entry)) : Type 0 where
   -- in each journal the slots never fall
   pub rising : (desk : ℕ) → 1 ≤ desk → desk ≤ length journals → AreEach (ComesLast (slots sessions schedule)) [] (journal_at journals desk)
