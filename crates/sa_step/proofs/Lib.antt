@@ -10,3 +10,6 @@ pub mod Ordered
 pub mod Timed
 pub mod Passing
 pub mod Ordering
+pub mod Waiting
+pub mod Emptied
+pub mod Left

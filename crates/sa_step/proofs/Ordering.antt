@@ -1,10 +1,11 @@
 -- The sessions of a script are in order from the beginning on, and so are their journals in the end.
-use Rattle.std.proofs.Common.{◌≡◌, ℕ, ◌+◌, ◌-◌, ◌<◌, ◌≤◌, List, [], ◌∷◌, drop, length, map, All, slice_index_or, sym, subst, ap, ◌∙◌, arith}
+use Rattle.std.proofs.Common.{◌≡◌, ℕ, ◌+◌, ◌-◌, ◌<◌, ◌≤◌, List, [], ◌∷◌, drop, length, map, All, Any, slice_index_or, sym, subst, ap, ◌∙◌, arith}
 use Rattle.std.proofs.lemmas.List.{get_or-map, length-map, drop_more, drop_all}
 use Rattle.std.proofs.lemmas.List.FromFn.{get_or-map-range_with_len}
 use Rattle.std.proofs.lemmas.List.Elements.{All-nil}
 use Rattle.sa_desk.specs.declared.entry.Entry.{Entry}
-use Rattle.sa_desk.specs.State.{Terms}
+use Rattle.sa_desk.specs.State.{Terms, queue_of}
+use Rattle.sa_desk.specs.Runs.{state_of}
 use Rattle.sa_desk.specs.Contents.{Contents}
 use Rattle.sa_desk.specs.Legal.{journal_at}
 use Rattle.sa_desk.specs.New.{no_desk}
@@ -14,9 +15,9 @@ use Rattle.sa_desk.specs.program.Prepares.{Answers}
 use Rattle.sa_desk.specs.program.SoFar.{terms_of}
 use Rattle.sa_worker.specs.View.{View}
 use Rattle.sa_step.specs.Sessions.{AllSessions, AreRunning, first_in, first_views, view_in}
-use Rattle.sa_step.specs.Schedule.{slot, AreEach, slot_of, ComesLast, FindsCounted, slots, desk_terms, InSchedule}
+use Rattle.sa_step.specs.Schedule.{slot, AreEach, slot_of, ComesLast, FindsCounted, LeavesUnseen, slots, desk_terms, InSchedule}
 use Rattle.sa_step.specs.Turns.{GoesBy}
-use Rattle.sa_step.specs.inner.Timely.{IsTimely, IsOnTime, IsInRounds, in_round}
+use Rattle.sa_step.specs.inner.Timely.{IsTimely, AreUnseen, IsAsked, IsOnTime, IsInRounds, in_round}
 use Rattle.sa_step.proofs.Driven.{nobody}
 use Rattle.sa_step.proofs.Passing.{Passes, on_time_next, Passes-named, Passes-round, round_begins, round_ends, IsOnTime-same}
 
@@ -43,6 +44,13 @@ module _ (gives : Answers) (all : AllSessions) (first : all.views ≡ first_view
           behind = λ desk least most. subst (λ (journal : List Entry). All (λ entry. slot_of times entry < 0) journal) (sym (no_entries desk least most)) (All-nil (λ entry. slot_of times entry < 0));
           rising = λ desk least most. subst (AreEach (ComesLast times) []) (sym (no_entries desk least most)) tt;
           counted = λ desk least most. subst (AreEach (FindsCounted times (desk_at all.plain desk).terms) []) (sym (no_entries desk least most)) tt;
+        };
+        unseen = record {
+          asked = λ desk least most.
+              let at = desk_at all.plain desk in
+              subst (λ (journal : List Entry). All (λ request. Any (IsAsked times at.terms.desk (view_in all.views desk).turn request) journal) (queue_of (state_of at.terms journal).phase))
+              (sym (no_entries desk least most)) (All-nil (λ request. Any (IsAsked times at.terms.desk (view_in all.views desk).turn request) []));
+          unseen = λ desk least most. subst (AreEach (LeavesUnseen times (desk_at all.plain desk).terms) []) (sym (no_entries desk least most)) tt;
         };
         goes_on = λ session least most undone turn from.
             let none = no_turns session least most in
@@ -109,8 +117,9 @@ module _ (gives : Answers) (all : AllSessions) (running : AreRunning gives all) 
       ∙ ap (λ (given : Given). terms_of given given.session) given
 
   -- Journals of sessions that are in order are in the order of the schedule.
-  pub timely_ordered : (schedule : List ℕ) (place : ℕ) → IsTimely (slots all.script schedule) place all → InSchedule all.script schedule journals
-  timely_ordered schedule place timely =
+  pub timely_ordered : (schedule : List ℕ) (place : ℕ) → IsTimely (slots all.script schedule) place all → AreUnseen (slots all.script schedule) all
+      → InSchedule all.script schedule journals
+  timely_ordered schedule place timely unseen =
       let count = length-map all.plain.desks (λ (desk : Contents). desk.journal) in
       record {
         rising = λ desk least most. subst (AreEach (ComesLast (slots all.script schedule)) []) (sym (journal_is desk least (omega (arith, most, count)))) (timely.rising desk least (omega (arith, most, count)));
@@ -118,4 +127,8 @@ module _ (gives : Answers) (all : AllSessions) (running : AreRunning gives all) 
             let high : desk ≤ length all.plain.desks = omega (arith, most, count) in
             subst (λ (terms : Terms). AreEach (FindsCounted (slots all.script schedule) terms) [] (journal_at journals desk)) (terms_are desk least high)
             (subst (AreEach (FindsCounted (slots all.script schedule) (desk_at all.plain desk).terms) []) (sym (journal_is desk least high)) (timely.counted desk least high));
+        unseen = λ desk least most.
+            let high : desk ≤ length all.plain.desks = omega (arith, most, count) in
+            subst (λ (terms : Terms). AreEach (LeavesUnseen (slots all.script schedule) terms) [] (journal_at journals desk)) (terms_are desk least high)
+            (subst (AreEach (LeavesUnseen (slots all.script schedule) (desk_at all.plain desk).terms) []) (sym (journal_is desk least high)) (unseen.unseen desk least high));
       }

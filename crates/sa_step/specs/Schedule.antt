@@ -1,8 +1,8 @@
 -- In which order sessions take their turns, and how their entries then stand in the journals.
-use Rattle.std.specs.Prelude.{◌≡◌, ⊤, ℕ, ◌+◌, ◌-◌, ◌*◌, ◌<◌, ◌≤◌, ◌==◌, ◌↔◌, List, [], ◌∷◌, ◌++◌, length, All, if◌then◌else◌}
+use Rattle.std.specs.Prelude.{◌≡◌, ⊤, ℕ, ◌+◌, ◌-◌, ◌*◌, ◌<◌, ◌≤◌, ◌==◌, ◌↔◌, ◌⊎◌, List, [], ◌∷◌, ◌++◌, length, All, Any, if◌then◌else◌}
 use Rattle.sa_desk.specs.declared.entry.Entry.{Entry}
 use Rattle.sa_desk.specs.declared.entry.Event.{Event}
-use Rattle.sa_desk.specs.declared.entry.Event.TheVariants.{Queued, Waited, WaitSpent}
+use Rattle.sa_desk.specs.declared.entry.Event.TheVariants.{Queued, Spent, Withdrawn, Waited, WaitSpent}
 use Rattle.sa_desk.specs.State.{Terms, Phase, planned, serving}
 use Rattle.sa_desk.specs.Runs.{state_of}
 use Rattle.sa_desk.specs.Legal.{Sessions, given_of, journal_at}
@@ -21,6 +21,11 @@ slot sessions (named ∷ rest) session turn =
 abbrev pub AreEach : (List Entry → Entry → Type 0) → (before entries : List Entry) → Type 0
 AreEach Is before [] = ⊤
 AreEach Is before (entry ∷ rest) = Is before entry × AreEach Is (before ++ entry ∷ []) rest
+
+-- a request of this number
+abbrev pub IsRequest : (number : ℕ) → Event → Type 0
+IsRequest number (Queued asked kind at budget) = asked ≡ number
+IsRequest number event = ⊥
 
 -- The entries of a desk, where turns have these slots.
 module _ (slot : (session turn : ℕ) → ℕ) where
@@ -58,6 +63,26 @@ module _ (slot : (session turn : ℕ) → ℕ) where
     abbrev pub FindsCounted : List Entry → Entry → Type 0
     FindsCounted before entry = IsNumbered (state_of terms before).phase (slot_of entry) entry.event
 
+    -- The desk's own session takes no turn between two places.
+    abbrev pub Rests : (from to : ℕ) → Type 0
+    Rests from to = (turn : ℕ) → 1 ≤ turn → (slot terms.desk turn ≤ from) ⊎ (to ≤ slot terms.desk turn)
+
+    -- The actor's request of this number stands before the entry, and since then the desk's own
+    -- session has taken no turn.
+    abbrev pub IsUnseen : List Entry → Entry → (number : ℕ) → Type 0
+    IsUnseen before entry number = Any
+        (λ was. (was.actor ≡ entry.actor) × IsRequest number was.event
+        × Rests (slot_of was) (slot_of entry)) before
+
+    -- A request that is spent or withdrawn is unseen.
+    abbrev pub IsLeft : List Entry → Entry → Event → Type 0
+    IsLeft before entry (Spent number turns) = IsUnseen before entry number
+    IsLeft before entry (Withdrawn number) = IsUnseen before entry number
+    IsLeft before entry event = ⊤
+
+    abbrev pub LeavesUnseen : List Entry → Entry → Type 0
+    LeavesUnseen before entry = IsLeft before entry entry.event
+
 -- the slots of a script with a schedule, and the terms of its desks
 abbrev pub slots : Sessions → List ℕ → (session turn : ℕ) → ℕ
 slots sessions schedule = slot (length sessions.texts) schedule
@@ -65,7 +90,9 @@ slots sessions schedule = slot (length sessions.texts) schedule
 abbrev pub desk_terms : Sessions → ℕ → Terms
 desk_terms sessions desk = terms_of (given_of sessions desk) desk
 
--- The journals of a script are in the order of a schedule.
+-- The journals of a script are in the order of a schedule: so they stand, and this they tell.
+-- Nothing is said of which poll takes an answer, which look ends a wait, and how soon a killed
+-- statement sees that it is.
 pub record InSchedule (sessions : Sessions) (schedule : List ℕ)
     (journals : List (List Entry)) : Type 0 where
   -- in each journal the slots never fall
@@ -74,4 +101,8 @@ pub record InSchedule (sessions : Sessions) (schedule : List ℕ)
   -- each Queued, Waited and WaitSpent tells the number that was published there
   pub counted : (desk : ℕ) → 1 ≤ desk → desk ≤ length journals →
       AreEach (FindsCounted (slots sessions schedule) (desk_terms sessions desk)) []
+      (journal_at journals desk)
+  -- where a request ends unanswered, the desk's own session has taken no turn since it was queued
+  pub unseen : (desk : ℕ) → 1 ≤ desk → desk ≤ length journals →
+      AreEach (LeavesUnseen (slots sessions schedule) (desk_terms sessions desk)) []
       (journal_at journals desk)

@@ -1,9 +1,13 @@
 -- How the sessions stand between two places of a schedule.
-use Rattle.std.specs.Prelude.{◌≡◌, ◌≢◌, ℕ, ◌+◌, ◌-◌, ◌*◌, ◌<◌, ◌≤◌, List, [], length, All, nat_lt, if◌then◌else◌}
+use Rattle.std.specs.Prelude.{◌≡◌, ◌≢◌, ℕ, ◌+◌, ◌-◌, ◌*◌, ◌<◌, ◌≤◌, List, [], length, All, Any, nat_lt, if◌then◌else◌}
+use Rattle.sa_desk.specs.declared.entry.Entry.{Entry}
+use Rattle.sa_desk.specs.declared.request.Request.{Request}
+use Rattle.sa_desk.specs.State.{queue_of}
+use Rattle.sa_desk.specs.Contents.{Contents, phase}
 use Rattle.sa_desk.specs.Plain.{desk_at}
 use Rattle.sa_worker.specs.View.{View, done}
 use Rattle.sa_step.specs.Sessions.{AllSessions, view_in}
-use Rattle.sa_step.specs.Schedule.{slot, AreEach, slot_of, ComesLast, FindsCounted}
+use Rattle.sa_step.specs.Schedule.{slot, AreEach, slot_of, ComesLast, FindsCounted, IsRequest, LeavesUnseen}
 
 -- Before a place: the turns that were taken lie behind it, and so do all entries, which are in order.
 pub record IsTimely (slot : (session turn : ℕ) → ℕ) (place : ℕ) (all : AllSessions) : Type 0 where
@@ -16,6 +20,25 @@ pub record IsTimely (slot : (session turn : ℕ) → ℕ) (place : ℕ) (all : A
   pub counted : (desk : ℕ) → 1 ≤ desk → desk ≤ length all.plain.desks →
       AreEach (FindsCounted slot (desk_at all.plain desk).terms) [] (desk_at all.plain desk).journal
 
+-- The entry is of a request, and all of so many turns of the desk's own session came before it.
+abbrev pub IsAsked : (slot : (session turn : ℕ) → ℕ) → (own turns : ℕ) → Request → Entry → Type 0
+IsAsked slot own turns request was =
+    (was.actor ≡ request.asker) × IsRequest request.request was.event ×
+    ((turn : ℕ) → 1 ≤ turn → turn ≤ turns → slot own turn < slot_of slot was)
+
+-- Nobody waits at a desk whose own session took a turn since.
+abbrev pub AreAsked : (slot : (session turn : ℕ) → ℕ) → (turns : ℕ) → Contents → Type 0
+AreAsked slot turns desk =
+    All (λ request. Any (IsAsked slot desk.terms.desk turns request) desk.journal)
+    (queue_of (phase desk))
+
+-- How the requests stand.
+pub record AreUnseen (slot : (session turn : ℕ) → ℕ) (all : AllSessions) : Type 0 where
+  pub asked : (desk : ℕ) → 1 ≤ desk → desk ≤ length all.plain.desks
+      → AreAsked slot (view_in all.views desk).turn (desk_at all.plain desk)
+  pub unseen : (desk : ℕ) → 1 ≤ desk → desk ≤ length all.plain.desks →
+      AreEach (LeavesUnseen slot (desk_at all.plain desk).terms) [] (desk_at all.plain desk).journal
+
 -- The turns that are left to a session come so many places later.
 abbrev pub GoesOn : (slot rest : (session turn : ℕ) → ℕ) → (place : ℕ) → List View → Type 0
 GoesOn slot rest place views =
@@ -25,6 +48,7 @@ GoesOn slot rest place views =
 
 pub record IsOnTime (slot rest : (session turn : ℕ) → ℕ) (place : ℕ) (all : AllSessions) : Type 0 where
   pub timely : IsTimely slot place all
+  pub unseen : AreUnseen slot all
   pub goes_on : GoesOn slot rest place all.views
 
 -- Before some place, at which rounds begin.
