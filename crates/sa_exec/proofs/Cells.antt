@@ -11,6 +11,7 @@ use Rattle.sa_cond.specs.declared.cond.Cond.{Cond}
 use Rattle.sa_cond.specs.declared.expr.Expr.{Expr}
 use Rattle.sa_cond.specs.Cited.{Name, column as named_column, slot as named_slot, IsThere, MeetsName, CanTest, CanEvaluate, cond_names, expr_names}
 use Rattle.sa_cond.specs.Typed.{MeetsKind}
+use Rattle.sa_query.specs.Kinds.{cells_of}
 use Rattle.sa_table.specs.declared.def.ColumnDef.{ColumnDef}
 use Rattle.sa_table.specs.declared.def.ColumnKind.{ColumnKind}
 use Rattle.sa_table.specs.declared.def.ColumnKind.TheVariants as kinds
@@ -22,7 +23,7 @@ use Rattle.sa_table.specs.Sound.{IsKept, IsRow, IsSoundTable, AreSound, column_a
 use Rattle.sa_table.specs.Table.{Table, table_at, no_table, row_at, row_count, column_count, value_in}
 use Rattle.sa_plan.specs.declared.plan.Level.{Level}
 use Rattle.sa_plan.specs.Chosen.{Chosen, choice_of}
-use Rattle.sa_plan.specs.Lawful.{cells_of, kinds_of, IsInSight, IsLawfulExpr, IsLawfulCond}
+use Rattle.sa_plan.specs.Lawful.{kinds_of, IsInSight, IsLawfulExpr, IsLawfulCond}
 use Rattle.sa_meaning.specs.Items.{with_row}
 use Rattle.sa_exec.specs.inner.Chosen.{IsCell}
 

@@ -7,7 +7,8 @@ use Rattle.sa_cond.specs.declared.cond.Cond.{Cond}
 use Rattle.sa_cond.specs.Condition.{holds}
 use Rattle.sa_plan.specs.Chosen.{Chosen, choice_of}
 use Rattle.sa_meaning.specs.Data.{RunData}
-use Rattle.sa_meaning.specs.Items.{is_true, passes}
+use Rattle.sa_query.specs.Choices.{is_true}
+use Rattle.sa_meaning.specs.Items.{passes}
 
 abbrev pub is_passed : RunData → List Chosen → Cond → Bool
 is_passed tables chosen cond = is_true (holds (choice_of tables chosen) cond)

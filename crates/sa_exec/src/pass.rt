@@ -2,7 +2,8 @@ ghost use Rattle.std.specs.Prelude.{◌≡◌, ◌<◌, []};
 ghost use Rattle.sa_table.specs.Sound.{AreSound};
 ghost use Rattle.sa_table.specs.Table.{row_count};
 ghost use Rattle.sa_plan.specs.Lawful.{IsLawfulLevel};
-ghost use Rattle.sa_meaning.specs.Items.{passes as all_pass, is_true as is_true_truth, with_row};
+ghost use Rattle.sa_query.specs.Choices.{is_true as is_true_truth};
+ghost use Rattle.sa_meaning.specs.Items.{passes as all_pass, with_row};
 
 use crate::chosen::ChosenRow;
 use sa_cond::eval;

@@ -1,14 +1,13 @@
 -- What a run of a plan does, item by item. One item is one row step.
 -- Source: MariaDB Knowledge Base, "SELECT" and "JOIN Syntax": WHERE and ON keep the rows for which they are TRUE.
-use Rattle.std.specs.Prelude.{ℕ, ◌+◌, Bool, true, false, List, [], ◌∷◌, ◌++◌, map, if◌then◌else◌}
+use Rattle.std.specs.Prelude.{ℕ, ◌+◌, Bool, List, [], ◌∷◌, ◌++◌, map, if◌then◌else◌}
 use Rattle.std.specs.List.{flat_map, list_all}
-use Rattle.sa_value.specs.declared.truth.Truth.{Truth}
-use Rattle.sa_value.specs.declared.truth.Truth.TheVariants.{False, Unknown, True}
 use Rattle.sa_value.specs.declared.value.Value.{Value}
 use Rattle.sa_cond.specs.declared.cond.Cond.{Cond}
 use Rattle.sa_cond.specs.Condition.{holds}
 use Rattle.sa_cond.specs.Expression.{expr_value}
 use Rattle.sa_query.specs.declared.item.Item.{Item}
+use Rattle.sa_query.specs.Choices.{is_true}
 use Rattle.sa_plan.specs.declared.plan.Level.{Level}
 use Rattle.sa_plan.specs.declared.plan.Plan.{Plan}
 use Rattle.sa_plan.specs.Chosen.{Chosen, choice_of}
@@ -21,12 +20,6 @@ pub data RunItem : Type 0 where
   open_level : (level : ℕ) → RunItem
   read_row : (level : ℕ) (passed : Bool) → RunItem
   emit_row : (row : List Value) → RunItem
-
--- whether a truth is TRUE, and neither FALSE nor UNKNOWN
-abbrev pub is_true : Truth → Bool
-is_true False = false
-is_true Unknown = false
-is_true True = true
 
 -- whether the rows that are chosen pass all of these conditions
 unfoldable pub passes : RunData → List Cond → List Chosen → Bool

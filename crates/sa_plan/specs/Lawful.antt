@@ -1,5 +1,5 @@
 -- When a plan is lawful for tables: whatever it names is there, in its place and of the right kind.
-use Rattle.std.specs.Prelude.{◌≡◌, ◌≢◌, ℕ, pos, negsuc, ◌<◌, ◌≤◌, ◌==◌, true, List, [], ◌∷◌, ◌++◌, length, All, Any, if◌then◌else◌}
+use Rattle.std.specs.Prelude.{◌≡◌, ◌≢◌, ℕ, ◌<◌, ◌≤◌, ◌==◌, true, List, [], ◌∷◌, ◌++◌, length, All, Any, if◌then◌else◌}
 use Rattle.sa_cond.specs.declared.cells.CellKind.{CellKind}
 use Rattle.sa_cond.specs.declared.cells.CellKind.TheVariants as cells
 use Rattle.sa_cond.specs.declared.cond.Cond.{Cond}
@@ -8,18 +8,11 @@ use Rattle.sa_cond.specs.Cited.{Name, column, slot, expr_names, cond_names}
 use Rattle.sa_cond.specs.Interval.{CellKinds, expr_kind}
 use Rattle.sa_cond.specs.Typed.{is_proper, is_well_typed}
 use Rattle.sa_query.specs.declared.item.Item.{Item}
-use Rattle.sa_table.specs.declared.def.ColumnKind.{ColumnKind}
-use Rattle.sa_table.specs.declared.def.ColumnKind.TheVariants as kinds
+use Rattle.sa_query.specs.Kinds.{cells_of}
 use Rattle.sa_table.specs.Sound.{column_at}
 use Rattle.sa_table.specs.Table.{Table, table_at, column_count}
 use Rattle.sa_plan.specs.declared.plan.Level.{Level}
 use Rattle.sa_plan.specs.declared.plan.Plan.{Plan}
-
--- what the cells of a column can hold
-abbrev pub cells_of : ColumnKind → CellKind
-cells_of kinds.Int = cells.Number (negsuc 2147483647) (pos 2147483647)
-cells_of kinds.BigInt = cells.Number (negsuc 9223372036854775807) (pos 9223372036854775807)
-cells_of (kinds.VarChar characters) = cells.Text
 
 -- the kind of a column of the table with this position; what isn't there counts as a text
 abbrev pub column_kind : List Table → List Level → (position number : ℕ) → CellKind

@@ -1,5 +1,5 @@
 ghost use Rattle.std.specs.Prelude.{◌≡◌, ◌<◌, ◌↔◌, length, IsTrue};
-ghost use Rattle.sa_plan.specs.Lawful.{cells_of};
+ghost use Rattle.sa_query.specs.Kinds.{cells_of};
 
 use sa_cond::{CellKind, Kinds};
 use sa_plan::Level;

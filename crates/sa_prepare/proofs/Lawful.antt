@@ -13,6 +13,7 @@ use Rattle.sa_cond.specs.Typed.{is_proper, can_compare, is_well_typed}
 use Rattle.sa_cond.proofs.CondForms.{names-Compare, typed-Compare}
 use Rattle.sa_cond.proofs.Forms.{kind-Column, kind-Literal, names-Column, names-Literal}
 use Rattle.sa_query.specs.declared.item.Item.{Item}
+use Rattle.sa_query.specs.Kinds.{cells_of}
 use Rattle.sa_table.specs.declared.def.ColumnKind.{ColumnKind}
 use Rattle.sa_table.specs.declared.def.ColumnKind.TheVariants as kinds
 use Rattle.sa_table.specs.Sound.{column_at}
@@ -20,7 +21,7 @@ use Rattle.sa_table.specs.Table.{Table, table_at, column_count, row_count}
 use Rattle.sa_plan.specs.declared.plan.Access.TheVariants as access
 use Rattle.sa_plan.specs.declared.plan.Level.{Level}
 use Rattle.sa_plan.specs.declared.plan.Plan.{Plan}
-use Rattle.sa_plan.specs.Lawful.{cells_of, kinds_of, IsInSight, IsLawfulExpr, IsLawfulCond}
+use Rattle.sa_plan.specs.Lawful.{kinds_of, IsInSight, IsLawfulExpr, IsLawfulCond}
 use Rattle.sa_prepare.specs.FirstForm.{FirstForm}
 use Rattle.sa_prepare.specs.FirstPlan.{is_number, is_int, table_number, column_number, the_column, plan_over, is_planned, first_plan}
 use Rattle.sa_prepare.specs.Sound.{IsSoundPlan}

@@ -1,6 +1,6 @@
 use Rattle.std.proofs.Common.{◌≡◌, ◌<◌, [], ◌∷◌, length, get_or, sym, ap, subst, ◌∙◌, arith}
 use Rattle.sa_plan.specs.Lawful.{IsLawfulCond}
-use Rattle.sa_meaning.specs.Items.{is_true}
+use Rattle.sa_query.specs.Choices.{is_true}
 use Rattle.sa_exec.proofs.Cells.{chosen_of, cond_is_there, cond_can_be_tested}
 use Rattle.sa_exec.proofs.Passing.{one_more, one_fails, all_pass}
 use Rattle.sa_exec.proofs.pass.passes.Goals as goal
