@@ -11,6 +11,7 @@ mod setup;
 mod statement;
 
 use crate::fault::ReadFault;
+use crate::lent::Lent;
 use sa_ast::NameTree;
 use sa_lexer::{Sign, Token, TokenKind, is_reserved};
 use sa_value::Text;
@@ -20,24 +21,26 @@ use std::marker::Model;
 /// The tokens that are still to be read. Contracts see them as a list.
 #[derive(Drop)]
 pub(crate) struct Cursor<'a> {
-    rest: &'a [Token],
+    rest: &'a [&'a Token],
 }
 
 impl<'a> Model for Cursor<'a> {
-    ghost use Rattle.std.specs.Prelude.{List};
+    ghost use Rattle.std.specs.Prelude.{List, map};
     ghost use Rattle.sa_lexer.specs.declared.token.Token as token;
 
     ghost Value = { List token.Token };
 
-    ghost view = { λ cursor. cursor.rest.now };
+    ghost view = { λ cursor. map (λ token. token.now) cursor.rest.now };
 }
 
 impl<'a> Cursor<'a> {
     /// A cursor at the first of these tokens.
-    pub(crate) fn new(tokens: &'a [Token]) -> Cursor<'a>
+    pub(crate) fn new(tokens: &'a Lent<'_>) -> Cursor<'a>
         ensures { result ≡ tokens.now }
     {
-        Cursor { rest: tokens }
+        Cursor {
+            rest: tokens.as_slice(),
+        }
     }
 
     /// How many tokens are left.

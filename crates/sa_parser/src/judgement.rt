@@ -6,10 +6,10 @@ ghost use Rattle.sa_parser.specs.inner.Judgement.{IsJudgement, Tells, LeavesWith
 use crate::cursor::Cursor;
 use crate::directive::directive;
 use crate::fault::ReadFault;
+use crate::lent::Lent;
 use crate::setup::setup;
 use crate::statement::statement;
 use sa_ast::{Directive, Statement};
-use sa_lexer::Token;
 use sa_value::OutOfMemory;
 use std::alloc::Global;
 
@@ -26,7 +26,7 @@ pub(crate) enum Judgement<T> {
 /// tokens.
 pub(crate) fn judge_statement(
     alloc: Global,
-    tokens: &[Token],
+    tokens: &Lent<'_>,
 ) -> Result<Judgement<Statement>, OutOfMemory>
     ensures { IfOk result (IsJudgement IsStatement tokens.now) }
 {
@@ -39,7 +39,7 @@ pub(crate) fn judge_statement(
 /// Reads all of the tokens as a statement that sets tables up.
 pub(crate) fn judge_setup(
     alloc: Global,
-    tokens: &[Token],
+    tokens: &Lent<'_>,
 ) -> Result<Judgement<Statement>, OutOfMemory>
     ensures { IfOk result (IsJudgement IsSetup tokens.now) }
 {
@@ -52,7 +52,7 @@ pub(crate) fn judge_setup(
 /// Reads all of the tokens as a directive of a script.
 pub(crate) fn judge_directive(
     alloc: Global,
-    tokens: &[Token],
+    tokens: &Lent<'_>,
 ) -> Result<Judgement<Directive>, OutOfMemory>
     ensures { IfOk result (IsJudgement IsDirective tokens.now) }
 {

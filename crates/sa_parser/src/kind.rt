@@ -6,9 +6,9 @@ ghost use Rattle.sa_parser.specs.Fault as spec;
 ghost use Rattle.sa_parser.specs.Fault.{Begins, in_place_of, ReadAsName, StandsForKind, AsksForMore};
 ghost use Rattle.sa_parser.specs.inner.Grammar.{form_of};
 
-use crate::copied::copied;
 use crate::cursor::name_of;
 use crate::grammar::Grammar;
+use crate::lent::Lent;
 use crate::words::is_among;
 use sa_lexer::{Sign, Token, TokenKind};
 use sa_value::{OutOfMemory, Text};
@@ -136,11 +136,12 @@ fn begins_with(
     ensures { IfOk result (λ found. IsTrue found
         ↔ Begins (form_of grammar) (before.now ++ in_place_of last.now kind ∷ [])) }
 {
-    let mut tokens = copied(alloc, before)?;
-    tokens.push(Token {
+    let other = Token {
         kind,
         start: last.start,
         end: last.end,
-    })?;
+    };
+    let mut tokens = Lent::of(alloc, before)?;
+    tokens.push(&other)?;
     grammar.begins(alloc, &tokens)
 }

@@ -7,7 +7,6 @@
 mod answer;
 mod canonical;
 mod commas;
-mod copied;
 mod cursor;
 mod depth;
 mod directive;
@@ -16,6 +15,7 @@ mod fault;
 mod grammar;
 mod judgement;
 mod kind;
+mod lent;
 mod limits;
 mod members;
 mod parser;

@@ -12,6 +12,7 @@ use crate::depth::first_too_deep;
 use crate::grammar::Grammar;
 use crate::judgement::{Judgement, judge_directive, judge_setup, judge_statement};
 use crate::kind::is_unsupported;
+use crate::lent::Lent;
 use sa_ast::{Directive, Statement};
 use sa_lexer::{Sign, Token, Tokens};
 use sa_value::OutOfMemory;
@@ -30,7 +31,8 @@ pub fn parse(alloc: Global, tokens: &Tokens) -> Result<Statement, ParseFault>
 {
     let tokens = tokens.as_slice();
     stays_flat(alloc, Grammar::Session, tokens)?;
-    match judge_statement(alloc, tokens)? {
+    let judgement = judge_statement(alloc, &Lent::of(alloc, tokens)?)?;
+    match judgement {
         Judgement::Whole(tree) => Ok(tree),
         Judgement::Faulty(count) => Err(fault_behind(alloc, Grammar::Session, tokens, count)?),
     }
@@ -47,7 +49,8 @@ pub fn parse_setup(alloc: Global, tokens: &Tokens) -> Result<Statement, ParseFau
 {
     let tokens = tokens.as_slice();
     stays_flat(alloc, Grammar::Setup, tokens)?;
-    match judge_setup(alloc, tokens)? {
+    let judgement = judge_setup(alloc, &Lent::of(alloc, tokens)?)?;
+    match judgement {
         Judgement::Whole(tree) => Ok(tree),
         Judgement::Faulty(count) => Err(fault_behind(alloc, Grammar::Setup, tokens, count)?),
     }
@@ -63,7 +66,8 @@ pub fn parse_directive(alloc: Global, tokens: &Tokens) -> Result<Directive, Pars
 {
     let tokens = tokens.as_slice();
     stays_flat(alloc, Grammar::Script, tokens)?;
-    match judge_directive(alloc, tokens)? {
+    let judgement = judge_directive(alloc, &Lent::of(alloc, tokens)?)?;
+    match judgement {
         Judgement::Whole(tree) => Ok(tree),
         Judgement::Faulty(count) => Err(fault_behind(alloc, Grammar::Script, tokens, count)?),
     }
@@ -97,7 +101,8 @@ fn fault_up_to(
     } else {
         place
     };
-    match grammar.first_faulty(alloc, &tokens[..judged])? {
+    let first = grammar.first_faulty(alloc, &Lent::of(alloc, &tokens[..judged])?)?;
+    match first {
         None => Ok(ParseFault::TooDeep { place: token.start }),
         Some(count) => fault_behind(alloc, grammar, tokens, count),
     }

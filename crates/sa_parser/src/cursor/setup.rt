@@ -6,10 +6,10 @@ ghost use Rattle.sa_parser.specs.inner.SetupReading as setup;
 ghost use Rattle.sa_parser.specs.inner.Reading as reading;
 ghost use Rattle.sa_parser.specs.inner.Reads.{Reads};
 
-use crate::cursor::{Cursor, is_word};
+use crate::cursor::{Cursor, is_sign, is_word};
 use crate::fault::ReadFault;
 use crate::value::number_value;
-use sa_lexer::{Token, TokenKind};
+use sa_lexer::{Sign, Token, TokenKind};
 use sa_value::{OutOfMemory, Value};
 use std::alloc::Global;
 
@@ -30,6 +30,16 @@ impl<'a> Cursor<'a> {
         ensures { result ≡ setup.sees_key_word self.now }
     {
         self.sees_word("KEY") || self.sees_word("INDEX")
+    }
+
+    /// How many values stand before the next closing bracket, in a row that is read. Elsewhere the
+    /// number says nothing.
+    pub(crate) fn values_ahead(&self) -> usize {
+        self.rest
+            .iter()
+            .take_while(|token| !is_sign(token, Sign::RightParen))
+            .filter(|token| !matches!(token.kind, TokenKind::Sign(_)))
+            .count()
     }
 
     /// The next token, which has to be a value by itself: a number, a text, or NULL.

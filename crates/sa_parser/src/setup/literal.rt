@@ -19,7 +19,8 @@ const MAGNITUDES: u128 = 1 << 127;
 pub(crate) fn literals(alloc: Global, cursor: &mut Cursor<'_>) -> Result<Row, ReadFault>
     ensures { Reads (reading.commas setup.literal cursor.old) result cursor.new }
 {
-    let mut values = Row::new(alloc);
+    // A row is made at its size: an INSERT can have millions.
+    let mut values = Row::from_vec(Vec::with_capacity(alloc, cursor.values_ahead())?);
     values.push(literal(alloc, cursor)?)?;
     // Each turn takes a token.
     for _turn in 0..cursor.left() {

@@ -12,7 +12,7 @@ returns-in-None c =
       | then-is_sign w ↦ inl ((sym c.is_sign.ensures ∙ w.if-is_sign.true), w.judged-is)
       | else-is_sign w ↦ inr ((sym c.is_sign.ensures ∙ w.if-is_sign.false), w.judged-is)
     ] in
-    let begins = rw c.in-None.is at c.in_ok-first_faulty.ensures in
+    let begins = rw (c.in-None.is, c.in_ok-of.ensures) at c.in_ok-first.ensures in
     deep-begun c.args.tokens.now c.args.place c.index-tokens-place.result c.requires c.index-tokens-place.is (form_of c.args.grammar) c.if-is_sign.judged judged begins
 
 pub returns-in-Some : goal.returns-in-Some
@@ -21,7 +21,7 @@ returns-in-Some c =
       | then-is_sign w ↦ inl ((sym c.is_sign.ensures ∙ w.if-is_sign.true), w.judged-is)
       | else-is_sign w ↦ inr ((sym c.is_sign.ensures ∙ w.if-is_sign.false), w.judged-is)
     ] in
-    let faulty = rw c.in-Some.is at c.in_ok-first_faulty.ensures in
+    let faulty = rw (c.in-Some.is, c.in_ok-of.ensures) at c.in_ok-first.ensures in
     IfOk-weaker c.fault_behind.result _ (λ fault. IsAnswer (form_of c.args.grammar) c.args.tokens.now (Err fault))
     (λ fault tells. deep-faulty c.args.tokens.now c.args.place c.index-tokens-place.result c.requires c.index-tokens-place.is (form_of c.args.grammar) c.if-is_sign.judged c.in-Some.count fault judged faulty tells)
     c.fault_behind.ensures
