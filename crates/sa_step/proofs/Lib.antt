@@ -12,4 +12,8 @@ pub mod Passing
 pub mod Ordering
 pub mod Waiting
 pub mod Emptied
+pub mod Ends
 pub mod Left
+pub mod Answering
+pub mod Polled
+pub mod Taken

@@ -4,6 +4,7 @@ use Rattle.std.proofs.lemmas.List.{get_or-map, length-map, drop_more, drop_all}
 use Rattle.std.proofs.lemmas.List.FromFn.{get_or-map-range_with_len}
 use Rattle.std.proofs.lemmas.List.Elements.{All-nil}
 use Rattle.sa_desk.specs.declared.entry.Entry.{Entry}
+use Rattle.sa_desk.specs.declared.request.Reply.{Reply}
 use Rattle.sa_desk.specs.State.{Terms, queue_of}
 use Rattle.sa_desk.specs.Runs.{state_of}
 use Rattle.sa_desk.specs.Contents.{Contents}
@@ -15,9 +16,9 @@ use Rattle.sa_desk.specs.program.Prepares.{Answers}
 use Rattle.sa_desk.specs.program.SoFar.{terms_of}
 use Rattle.sa_worker.specs.View.{View}
 use Rattle.sa_step.specs.Sessions.{AllSessions, AreRunning, first_in, first_views, view_in}
-use Rattle.sa_step.specs.Schedule.{slot, AreEach, slot_of, ComesLast, FindsCounted, LeavesUnseen, slots, desk_terms, InSchedule}
+use Rattle.sa_step.specs.Schedule.{slot, AreEach, slot_of, ComesLast, FindsCounted, LeavesUnseen, TakesFirst, slots, desk_terms, InSchedule}
 use Rattle.sa_step.specs.Turns.{GoesBy}
-use Rattle.sa_step.specs.inner.Timely.{IsTimely, AreUnseen, IsAsked, IsOnTime, IsInRounds, in_round}
+use Rattle.sa_step.specs.inner.Timely.{IsTimely, AreUnseen, IsAsked, polled_at, IsLateFor, AreLateFor, AreUntaken, IsOnTime, IsInRounds, in_round}
 use Rattle.sa_step.proofs.Driven.{nobody}
 use Rattle.sa_step.proofs.Passing.{Passes, on_time_next, Passes-named, Passes-round, round_begins, round_ends, IsOnTime-same}
 
@@ -51,6 +52,14 @@ module _ (gives : Answers) (all : AllSessions) (first : all.views ≡ first_view
               subst (λ (journal : List Entry). All (λ request. Any (IsAsked times at.terms.desk (view_in all.views desk).turn request) journal) (queue_of (state_of at.terms journal).phase))
               (sym (no_entries desk least most)) (All-nil (λ request. Any (IsAsked times at.terms.desk (view_in all.views desk).turn request) []));
           unseen = λ desk least most. subst (AreEach (LeavesUnseen times (desk_at all.plain desk).terms) []) (sym (no_entries desk least most)) tt;
+        };
+        untaken = record {
+          late = λ desk asker least most from to.
+              let at = desk_at all.plain desk in
+              let turns = polled_at (view_in all.views asker) (view_in all.views asker).stage in
+              subst (λ (journal : List Entry). AreLateFor times asker turns (state_of at.terms journal).replies journal)
+              (sym (no_entries desk least most)) (All-nil (λ (reply : Reply). reply.asker ≡ asker → Any (IsLateFor times asker turns reply.request) []));
+          first = λ desk least most. subst (AreEach (TakesFirst times) []) (sym (no_entries desk least most)) tt;
         };
         goes_on = λ session least most undone turn from.
             let none = no_turns session least most in
@@ -118,8 +127,8 @@ module _ (gives : Answers) (all : AllSessions) (running : AreRunning gives all) 
 
   -- Journals of sessions that are in order are in the order of the schedule.
   pub timely_ordered : (schedule : List ℕ) (place : ℕ) → IsTimely (slots all.script schedule) place all → AreUnseen (slots all.script schedule) all
-      → InSchedule all.script schedule journals
-  timely_ordered schedule place timely unseen =
+      → AreUntaken (slots all.script schedule) all → InSchedule all.script schedule journals
+  timely_ordered schedule place timely unseen untaken =
       let count = length-map all.plain.desks (λ (desk : Contents). desk.journal) in
       record {
         rising = λ desk least most. subst (AreEach (ComesLast (slots all.script schedule)) []) (sym (journal_is desk least (omega (arith, most, count)))) (timely.rising desk least (omega (arith, most, count)));
@@ -131,4 +140,7 @@ module _ (gives : Answers) (all : AllSessions) (running : AreRunning gives all) 
             let high : desk ≤ length all.plain.desks = omega (arith, most, count) in
             subst (λ (terms : Terms). AreEach (LeavesUnseen (slots all.script schedule) terms) [] (journal_at journals desk)) (terms_are desk least high)
             (subst (AreEach (LeavesUnseen (slots all.script schedule) (desk_at all.plain desk).terms) []) (sym (journal_is desk least high)) (unseen.unseen desk least high));
+        first = λ desk least most.
+            let high : desk ≤ length all.plain.desks = omega (arith, most, count) in
+            subst (AreEach (TakesFirst (slots all.script schedule)) []) (sym (journal_is desk least high)) (untaken.first desk least high);
       }

@@ -10,6 +10,7 @@ use Rattle.sa_step.specs.Schedule as schedules
 use Rattle.sa_step.specs.Schedule.{slot_of}
 use Rattle.sa_step.specs.Turns.{TakesTurn, GoesBy}
 use Rattle.sa_step.specs.inner.Timely.{IsTimely, GoesOn, IsOnTime, in_round}
+use Rattle.sa_step.proofs.Taken.{untaken_turn}
 use Rattle.sa_step.proofs.Timed.{timely_turn, unseen_turn}
 
 -- From one place to the next.
@@ -68,12 +69,18 @@ module _ (gives : Answers) (slot rest later : (session turn : ℕ) → ℕ) (pla
         ]
 
     taken_on : IsOnTime slot later (place + 1) after
-    taken_on = record { timely = timely_turn gives slot place before after running session least most takes on_time.timely here ahead count; unseen = unseen_turn gives slot place before after running session least most takes on_time.timely here ahead on_time.unseen; goes_on = goes_after }
+    taken_on = record {
+      timely = timely_turn gives slot place before after running session least most takes on_time.timely here ahead count;
+      unseen = unseen_turn gives slot place before after running session least most takes on_time.timely here ahead on_time.unseen;
+      untaken = untaken_turn gives slot place before after running session least most takes on_time.timely here ahead on_time.untaken count;
+      goes_on = goes_after;
+    }
 
   passed_on : (view_in before.views session).stage ≡ done → IsOnTime slot later (place + 1) before
   passed_on over = record {
     timely = timely_later slot place before on_time.timely;
     unseen = on_time.unseen;
+    untaken = on_time.untaken;
     goes_on = λ other low high undone turn from. elim (cases_eq other session) [
       | inl is ↦ absurd (undone (subst (λ other. (view_in before.views other).stage ≡ done) (sym is) over))
       | inr apart ↦ others_on other low high apart undone turn from
@@ -137,5 +144,6 @@ pub IsOnTime-same : (slot rest other : (session turn : ℕ) → ℕ) (place : �
 IsOnTime-same slot rest other place all same on_time = record {
   timely = on_time.timely;
   unseen = on_time.unseen;
+  untaken = on_time.untaken;
   goes_on = λ session least most undone turn from. on_time.goes_on session least most undone turn from ∙ ap (λ far. place + far) (same session turn least most from);
 }

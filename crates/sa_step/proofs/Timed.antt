@@ -49,42 +49,42 @@ module _ (gives : Answers) (slot : (session turn : ℕ) → ℕ) (place : ℕ) (
     (session : ℕ) (least : 1 ≤ session) (most : session ≤ length before.views) (takes : TakesTurn gives before session after)
     (timely : IsTimely slot place before) (here : slot session ((view_in before.views session).turn + 1) ≡ place)
     (ahead : (other : ℕ) → 1 ≤ other → other ≤ length before.views → (view_in before.views other).stage ≢ done → (turn : ℕ) → (view_in before.views other).turn < turn → place ≤ slot other turn) where
-  abbrev world : World
+  abbrev pub world : World
   world = world_of before.plain
 
-  abbrev ready : View
+  abbrev pub ready : View
   ready = takes.ready
 
-  abbrev called : ℕ
+  abbrev pub called : ℕ
   called = view.desk_at ready ready.stage
 
-  abbrev found : Contents
+  abbrev pub found : Contents
   found = desk_at before.plain called
 
-  abbrev stamp : Stamp
+  abbrev pub stamp : Stamp
   stamp = next_stamp world (me_of ready)
 
-  abbrev entries : List Entry
+  abbrev pub entries : List Entry
   entries = made found stamp ready.number (call_at ready ready.stage)
 
-  own_given : (view_in before.views session).given ≡ given_of before.script session
+  pub own_given : (view_in before.views session).given ≡ given_of before.script session
   own_given = let count = running.workers in running.working.given session least (omega (arith, most, count))
 
-  actor_is : ready.given.session ≡ session
+  pub actor_is : ready.given.session ≡ session
   actor_is = ap (λ (given : Given). given.session) (given_works (view_in before.views session) gives ready takes.work ∙ own_given)
 
-  turn_is : ready.turn ≡ (view_in before.views session).turn
+  pub turn_is : ready.turn ≡ (view_in before.views session).turn
   turn_is = turn_works (view_in before.views session) gives ready takes.work
 
   -- The call's place is this.
-  placed : slot stamp.actor stamp.turn ≡ place
+  pub placed : slot stamp.actor stamp.turn ≡ place
   placed = ap (λ actor. slot actor (ready.turn + 1)) actor_is ∙ ap (λ turn. slot session (turn + 1)) turn_is ∙ here
 
-  entered : All (λ entry. slot_of slot entry ≡ place) entries
+  pub entered : All (λ entry. slot_of slot entry ≡ place) entries
   entered =
       same_slots slot ready.given.session (ready.turn + 1) place entries placed takes.call.leaves.own (made_in found stamp ready.number (call_at ready ready.stage))
 
-  called_there : (1 ≤ called) × (called ≤ length before.plain.desks)
+  pub called_there : (1 ≤ called) × (called ≤ length before.plain.desks)
   called_there = let there = are_there-is before.plain called ready.given.session takes.allowed in (there.desk_least, there.desk_most)
 
   -- What the desk that it called has published is counted.
@@ -110,13 +110,13 @@ module _ (gives : Answers) (slot : (session turn : ℕ) → ℕ) (place : ℕ) (
       (λ undone turn later. subst (λ desk. place ≤ slot desk turn) (sym number_is) (ahead called there.0 within undone turn later)))
 
   -- What the desks hold afterwards.
-  left_at_called : desk_at after.plain called ≡ left found stamp ready.number (call_at ready ready.stage)
+  pub left_at_called : desk_at after.plain called ≡ left found stamp ready.number (call_at ready ready.stage)
   left_at_called =
       let there = called_there in
       let same = takes.same in
       takes.call.left_is called (are_called after.plain called called there.0 (omega (arith, there.1, same)) there.0 (omega (arith, there.1, same)))
 
-  left_elsewhere : (desk : ℕ) → 1 ≤ desk → desk ≤ length before.plain.desks → desk ≢ called → desk_at after.plain desk ≡ desk_at before.plain desk
+  pub left_elsewhere : (desk : ℕ) → 1 ≤ desk → desk ≤ length before.plain.desks → desk ≢ called → desk_at after.plain desk ≡ desk_at before.plain desk
   left_elsewhere desk low high apart =
       let same = takes.same in
       takes.call.elsewhere_is desk desk apart (are_called after.plain desk desk low (omega (arith, high, same)) low (omega (arith, high, same)))
@@ -186,25 +186,25 @@ module _ (gives : Answers) (slot : (session turn : ℕ) → ℕ) (place : ℕ) (
       }
 
   -- The session's call empties its own desk, and a call of another's leaves there whoever waited.
-  called_active : IsActive ready.stage
+  pub called_active : IsActive ready.stage
   called_active = works_active gives (view_in before.views session) ready takes.undone takes.work
 
-  abbrev next : Contents
+  abbrev pub next : Contents
   next = left found stamp ready.number (call_at ready ready.stage)
 
-  runs : Runs found.terms (state found) entries
+  pub runs : Runs found.terms (state found) entries
   runs =
       let leaves = takes.call.leaves in
       let whole : Runs found.terms start (found.journal ++ entries) =
       subst (λ (terms : Terms). Runs terms start (found.journal ++ entries)) leaves.terms (subst (Runs next.terms start) leaves.grown leaves.sound.run.runs) in
       let parts : Runs found.terms start found.journal × Runs found.terms (state found) entries = Runs-parts found.terms start found.journal entries whole in parts.1
 
-  state_left : state next ≡ state_after found.terms (state found) entries
+  pub state_left : state next ≡ state_after found.terms (state found) entries
   state_left =
       let leaves = takes.call.leaves in
       ap (λ (terms : Terms). state_of terms next.journal) leaves.terms ∙ ap (state_of found.terms) leaves.grown ∙ state_of-append found.terms found.journal entries
 
-  ready_keeps : Keeps world ready
+  pub ready_keeps : Keeps world ready
   ready_keeps =
       let count = running.workers in
       let there : session ≤ length before.script.texts = omega (arith, most, count) in

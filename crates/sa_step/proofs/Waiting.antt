@@ -32,6 +32,10 @@ Any-weaker P Q more xs (k, x, there, is, p) = (k, x, there, is, more x p)
 pub Any-of_all : {X : Type 0} (P Q : X → Type 0) (xs : List X) → All P xs → Any Q xs → (x : X) × P x × Q x
 Any-of_all P Q xs all (k, x, there, is, q) = (x, subst P is (all k x there), q)
 
+-- One that is so, as all are in another way.
+pub Any-with_all : {X : Type 0} (P Q : X → Type 0) (xs : List X) → All P xs → Any Q xs → Any (λ x. P x × Q x) xs
+Any-with_all P Q xs all (k, x, there, is, q) = (k, x, there, is, (subst P is (all k x there), q))
+
 -- Nothing is so where there is nothing.
 pub Any-none : {X : Type 0} (P : X → Type 0) → Any P [] → ⊥
 Any-none P (k, x, there, is, p) = omega (arith, there)

@@ -2,7 +2,7 @@
 use Rattle.std.specs.Prelude.{◌≡◌, ⊤, ℕ, ◌+◌, ◌-◌, ◌*◌, ◌<◌, ◌≤◌, ◌==◌, ◌↔◌, ◌⊎◌, List, [], ◌∷◌, ◌++◌, length, All, Any, if◌then◌else◌}
 use Rattle.sa_desk.specs.declared.entry.Entry.{Entry}
 use Rattle.sa_desk.specs.declared.entry.Event.{Event}
-use Rattle.sa_desk.specs.declared.entry.Event.TheVariants.{Queued, Spent, Withdrawn, Waited, WaitSpent}
+use Rattle.sa_desk.specs.declared.entry.Event.TheVariants.{Queued, Served, Taken, Spent, Withdrawn, Waited, WaitSpent}
 use Rattle.sa_desk.specs.State.{Terms, Phase, planned, serving}
 use Rattle.sa_desk.specs.Runs.{state_of}
 use Rattle.sa_desk.specs.Legal.{Sessions, given_of, journal_at}
@@ -27,6 +27,11 @@ abbrev pub IsRequest : (number : ℕ) → Event → Type 0
 IsRequest number (Queued asked kind at budget) = asked ≡ number
 IsRequest number event = ⊥
 
+-- the answer to this session's request of this number
+abbrev pub IsAnswer : (asker number : ℕ) → Event → Type 0
+IsAnswer asker number (Served to request report) = (to ≡ asker) × (request ≡ number)
+IsAnswer asker number event = ⊥
+
 -- The entries of a desk, where turns have these slots.
 module _ (slot : (session turn : ℕ) → ℕ) where
   -- the slot of the turn in which an entry was made
@@ -41,6 +46,22 @@ module _ (slot : (session turn : ℕ) → ℕ) where
   abbrev pub AreBefore : (session begin place count : ℕ) → Type 0
   AreBefore session begin place count =
       (turn : ℕ) → begin < turn → ((slot session turn < place) ↔ (turn ≤ begin + count))
+
+  -- The answer to the actor's request of this number was made before the entry, and after all turns
+  -- of the actor up to two before the entry's. As an asker polls in every other turn, no poll before
+  -- the entry came after the answer.
+  abbrev pub IsFirst : List Entry → Entry → (number : ℕ) → Type 0
+  IsFirst before entry number = Any
+      (λ was. IsAnswer entry.actor number was.event × (slot_of was < slot_of entry)
+      × ((turn : ℕ) → 1 ≤ turn → turn + 2 ≤ entry.turn → slot entry.actor turn < slot_of was)) before
+
+  abbrev pub IsPrompt : List Entry → Entry → Event → Type 0
+  IsPrompt before entry (Taken number) = IsFirst before entry number
+  IsPrompt before entry event = ⊤
+
+  -- An answer is taken by the first poll after it, or by a withdrawal in that poll's place.
+  abbrev pub TakesFirst : List Entry → Entry → Type 0
+  TakesFirst before entry = IsPrompt before entry entry.event
 
   module _ (terms : Terms) where
     -- The steps that the desk's own session has published where a turn of this slot finds it: none
@@ -91,8 +112,7 @@ abbrev pub desk_terms : Sessions → ℕ → Terms
 desk_terms sessions desk = terms_of (given_of sessions desk) desk
 
 -- The journals of a script are in the order of a schedule: so they stand, and this they tell.
--- Nothing is said of which poll takes an answer, which look ends a wait, and how soon a killed
--- statement sees that it is.
+-- Nothing is said of which look ends a wait, and how soon a killed statement sees that it is.
 pub record InSchedule (sessions : Sessions) (schedule : List ℕ)
     (journals : List (List Entry)) : Type 0 where
   -- in each journal the slots never fall
@@ -106,3 +126,6 @@ pub record InSchedule (sessions : Sessions) (schedule : List ℕ)
   pub unseen : (desk : ℕ) → 1 ≤ desk → desk ≤ length journals →
       AreEach (LeavesUnseen (slots sessions schedule) (desk_terms sessions desk)) []
       (journal_at journals desk)
+  -- an answer is taken by the first poll after it
+  pub first : (desk : ℕ) → 1 ≤ desk → desk ≤ length journals
+      → AreEach (TakesFirst (slots sessions schedule)) [] (journal_at journals desk)

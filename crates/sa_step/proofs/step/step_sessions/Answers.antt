@@ -2,7 +2,7 @@ use Rattle.std.proofs.Common.{length, All, sym, subst, ap, ◌∙◌}
 use Rattle.sa_desk.specs.Legal.{Sessions, IsLegal}
 use Rattle.sa_step.specs.Remaining.{IsSession}
 use Rattle.sa_step.specs.Schedule.{slots, InSchedule}
-use Rattle.sa_step.specs.inner.Timely.{IsTimely, AreUnseen}
+use Rattle.sa_step.specs.inner.Timely.{IsTimely, AreUnseen, AreUntaken}
 use Rattle.sa_step.proofs.Ordering.{on_time_first, timely_ordered}
 use Rattle.sa_step.proofs.Remaining.{all_legal}
 use Rattle.sa_step.proofs.step.step_sessions.Goals as goal
@@ -25,7 +25,8 @@ returns g c =
     let same = c.take_rounds.ensures.script ∙ c.take_schedule.ensures.script in
     let ordered = timely_ordered gives all c.take_rounds.ensures.running c.args.schedule.now ends.0
     (subst (λ script. IsTimely (slots script c.args.schedule.now) ends.0 all) (sym same) ends.1.timely)
-    (subst (λ script. AreUnseen (slots script c.args.schedule.now) all) (sym same) ends.1.unseen) in
+    (subst (λ script. AreUnseen (slots script c.args.schedule.now) all) (sym same) ends.1.unseen)
+    (subst (λ script. AreUntaken (slots script c.args.schedule.now) all) (sym same) ends.1.untaken) in
     record {
       legal = subst (λ script. IsLegal gives script c.finish.result) script (subst (IsLegal gives all.script) (sym c.finish.ensures.journals) legal);
       in_schedule = subst (λ script. InSchedule script c.args.schedule.now c.finish.result) script (subst (InSchedule all.script c.args.schedule.now) (sym c.finish.ensures.journals) ordered);
