@@ -1,10 +1,9 @@
 -- A session's call leaves of its own answers those that came after its last poll.
-use Rattle.std.proofs.Common.{◌≡◌, ◌≢◌, ℕ, ◌+◌, ◌-◌, ◌==◌, ◌≤◌, if◌then◌else◌, Bool, true, false, Option, Some, None, List, [], ◌∷◌, ◌++◌, map, All, refl, sym, subst, arith}
+use Rattle.std.proofs.Common.{◌≡◌, ◌≢◌, ℕ, ◌+◌, ◌-◌, ◌==◌, ◌≤◌, if◌then◌else◌, Bool, true, false, Option, Some, None, List, [], ◌∷◌, ◌++◌, map, refl, sym, subst, arith}
 use Rattle.std.specs.Prelude.{⊤}
 use Rattle.std.proofs.lemmas.Bool.{ne_eqb}
-use Rattle.std.proofs.lemmas.List.Elements.{All-nil, All-cons, All-weaker}
+use Rattle.std.proofs.lemmas.List.Elements.{All-nil, All-cons}
 use Rattle.sa_ast.specs.declared.kind.AskKind.{AskKind}
-use Rattle.sa_count.specs.declared.report.Report.{Report}
 use Rattle.sa_desk.specs.declared.answer.Asked.{Asked}
 use Rattle.sa_desk.specs.declared.answer.Asked.TheVariants as asked
 use Rattle.sa_desk.specs.declared.answer.Begun.{Begun}
@@ -15,8 +14,6 @@ use Rattle.sa_desk.specs.declared.answer.Looked.{Looked}
 use Rattle.sa_desk.specs.declared.answer.Looked.TheVariants as looked
 use Rattle.sa_desk.specs.declared.answer.Polled.TheVariants.{Spent, NotYet}
 use Rattle.sa_desk.specs.declared.entry.Entry.{Entry}
-use Rattle.sa_desk.specs.declared.entry.Event.{Event}
-use Rattle.sa_desk.specs.declared.entry.Event.TheVariants.{Served}
 use Rattle.sa_desk.specs.declared.request.Reply.{Reply}
 use Rattle.sa_desk.specs.declared.stamp.Stamp.{Stamp}
 use Rattle.sa_desk.specs.State.{idle}
