@@ -47,13 +47,14 @@ module _ (slot : (session turn : ℕ) → ℕ) where
   AreBefore session begin place count =
       (turn : ℕ) → begin < turn → ((slot session turn < place) ↔ (turn ≤ begin + count))
 
-  -- The answer to the actor's request of this number was made before the entry, and after all turns
-  -- of the actor up to two before the entry's. As an asker polls in every other turn, no poll before
-  -- the entry came after the answer.
+  -- The answer to the actor's request of this number was made before the entry, and after all
+  -- turns of the actor up to two before the entry's. As an asker polls in every other turn, no poll
+  -- before the entry came after the answer.
   abbrev pub IsFirst : List Entry → Entry → (number : ℕ) → Type 0
   IsFirst before entry number = Any
       (λ was. IsAnswer entry.actor number was.event × (slot_of was < slot_of entry)
-      × ((turn : ℕ) → 1 ≤ turn → turn + 2 ≤ entry.turn → slot entry.actor turn < slot_of was)) before
+      × ((turn : ℕ) → 1 ≤ turn → turn + 2 ≤ entry.turn → slot entry.actor turn < slot_of was))
+      before
 
   abbrev pub IsPrompt : List Entry → Entry → Event → Type 0
   IsPrompt before entry (Taken number) = IsFirst before entry number

@@ -47,23 +47,26 @@ polled_at view (looks_asking kind desk count) = view.turn
 polled_at view (withdraws kind desk count) = view.turn - 1
 polled_at view stage = 0
 
--- The entry is the answer to the asker's request of this number, and so many turns of the asker came before it.
+-- The entry is the answer to the asker's request of this number, and so many turns of the asker
+-- came before it.
 abbrev pub IsLateFor : (slot : (session turn : ℕ) → ℕ) → (asker turns number : ℕ) → Entry → Type 0
 IsLateFor slot asker turns number was =
-    IsAnswer asker number was.event × ((turn : ℕ) → 1 ≤ turn → turn ≤ turns → slot asker turn < slot_of slot was)
+    IsAnswer asker number was.event
+    × ((turn : ℕ) → 1 ≤ turn → turn ≤ turns → slot asker turn < slot_of slot was)
 
 -- So it is with each of an asker's answers that aren't taken.
-abbrev pub AreLateFor : (slot : (session turn : ℕ) → ℕ) → (asker turns : ℕ) → List Reply → List Entry → Type 0
+abbrev pub AreLateFor : (slot : (session turn : ℕ) → ℕ) → (asker turns : ℕ) → List Reply
+    → List Entry → Type 0
 AreLateFor slot asker turns replies journal =
     All (λ reply. reply.asker ≡ asker → Any (IsLateFor slot asker turns reply.request) journal) replies
 
 -- How the answers stand.
 pub record AreUntaken (slot : (session turn : ℕ) → ℕ) (all : AllSessions) : Type 0 where
-  pub late : (desk asker : ℕ) → 1 ≤ desk → desk ≤ length all.plain.desks → 1 ≤ asker → asker ≤ length all.views →
+  pub late : (desk asker : ℕ) → 1 ≤ desk → desk ≤ length all.plain.desks
+      → 1 ≤ asker → asker ≤ length all.views →
       AreLateFor slot asker
       (polled_at (view_in all.views asker) (view_in all.views asker).stage)
-      (state (desk_at all.plain desk)).replies
-      (desk_at all.plain desk).journal
+      (state (desk_at all.plain desk)).replies (desk_at all.plain desk).journal
   pub first : (desk : ℕ) → 1 ≤ desk → desk ≤ length all.plain.desks →
       AreEach (TakesFirst slot) [] (desk_at all.plain desk).journal
 
