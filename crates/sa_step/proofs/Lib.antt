@@ -17,3 +17,9 @@ pub mod Left
 pub mod Answering
 pub mod Polled
 pub mod Taken
+pub mod Making
+pub mod Unkilled
+pub mod Coursing
+pub mod Looking
+pub mod Stopping
+pub mod Ending

@@ -88,7 +88,7 @@ module _ (gives : Answers) (slot : (session turn : ℕ) → ℕ) (place : ℕ) (
   called_there = let there = are_there-is before.plain called ready.given.session takes.allowed in (there.desk_least, there.desk_most)
 
   -- What the desk that it called has published is counted.
-  counted : IsCounted slot found.terms (phase found) place found.published
+  pub counted : IsCounted slot found.terms (phase found) place found.published
   counted =
       let there = called_there in
       let desks = running.desks in

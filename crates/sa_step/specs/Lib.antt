@@ -2,4 +2,5 @@ pub mod Sessions
 pub mod Remaining
 pub mod Turns
 pub mod Schedule
+pub mod Course
 pub mod inner

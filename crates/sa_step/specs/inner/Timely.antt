@@ -1,14 +1,21 @@
 -- How the sessions stand between two places of a schedule.
-use Rattle.std.specs.Prelude.{◌≡◌, ◌≢◌, ℕ, ◌+◌, ◌-◌, ◌*◌, ◌<◌, ◌≤◌, List, [], length, All, Any, nat_lt, if◌then◌else◌}
+use Rattle.std.specs.Prelude.{◌≡◌, ◌≢◌, ℕ, ◌+◌, ◌-◌, ◌*◌, ◌<◌, ◌≤◌, List, [], length, All, Any, nat_lt, if◌then◌else◌, ⊤, ◌++◌}
 use Rattle.sa_desk.specs.declared.entry.Entry.{Entry}
+use Rattle.sa_desk.specs.declared.entry.Event.{Event}
+use Rattle.sa_desk.specs.declared.entry.Event.TheVariants.{End}
 use Rattle.sa_desk.specs.declared.request.Reply.{Reply}
 use Rattle.sa_desk.specs.declared.request.Request.{Request}
 use Rattle.sa_desk.specs.State.{queue_of}
 use Rattle.sa_desk.specs.Contents.{Contents, phase, state}
-use Rattle.sa_desk.specs.Plain.{desk_at}
-use Rattle.sa_worker.specs.View.{View, Stage, polls, looks_asking, withdraws, done}
+use Rattle.sa_desk.specs.Plain.{Plain, desk_at, world_of}
+use Rattle.sa_desk.specs.program.Course.{Given, Answer, at_first, Course, course_of}
+use Rattle.sa_desk.specs.program.Prepares.{Answers}
+use Rattle.sa_worker.specs.View.{View, Stage, prepares, opens, closes, ends, polls, looks_asking, withdraws, ends_run, done}
+use Rattle.sa_worker.specs.Follows.{Follows}
+use Rattle.sa_worker.specs.Working.{WereGiven}
 use Rattle.sa_step.specs.Sessions.{AllSessions, view_in}
 use Rattle.sa_step.specs.Schedule.{slot, AreEach, slot_of, ComesLast, FindsCounted, IsRequest, IsAnswer, LeavesUnseen, TakesFirst}
+use Rattle.sa_step.specs.Course.{soon, IsKillOf, GoesOnBefore, SpendsBefore, LooksInVain, LooksInTime, StopsInTime}
 
 -- Before a place: the turns that were taken lie behind it, and so do all entries, which are in order.
 pub record IsTimely (slot : (session turn : ℕ) → ℕ) (place : ℕ) (all : AllSessions) : Type 0 where
@@ -69,6 +76,86 @@ pub record AreUntaken (slot : (session turn : ℕ) → ℕ) (all : AllSessions) 
       (state (desk_at all.plain desk)).replies (desk_at all.plain desk).journal
   pub first : (desk : ℕ) → 1 ≤ desk → desk ≤ length all.plain.desks →
       AreEach (TakesFirst slot) [] (desk_at all.plain desk).journal
+
+-- The journals begin with those of the desks, and go on with entries of this place and of later ones.
+abbrev pub AreLater : (slot : (session turn : ℕ) → ℕ) → (place : ℕ) → Plain → (ℕ → List Entry)
+    → Type 0
+AreLater slot place plain journals =
+    (desk : ℕ) → 1 ≤ desk → desk ≤ length plain.desks → (rest : List Entry)
+    × (journals desk ≡ (desk_at plain desk).journal ++ rest)
+    × All (λ entry. place ≤ slot_of slot entry) rest
+
+-- what the statement that is on does
+abbrev pub course_at : View → Course
+course_at view = course_of view.given at_first view.answer
+
+-- A statement that is on ends no sooner than in this turn where its next look for a kill sees one:
+-- all looks that it may have had for nothing come so long before.
+abbrev pub ends_by : View → Stage → ℕ
+ends_by view prepares = 0
+ends_by view opens = 0
+ends_by view closes = 0
+ends_by view done = 0
+ends_by view (ends result) = view.turn + 1
+ends_by view (ends_run planned made run given) = view.turn + 1
+ends_by view (withdraws kind desk count) = view.turn + soon (course_at view)
+ends_by view stage = view.turn + 1 + soon (course_at view)
+
+-- What is so where only its End is left.
+abbrev pub AtEnd : (Is : Course → (b last : ℕ) → Type 0) → View → Stage → Type 0
+AtEnd Is view (ends result) = Is (course_at view) view.began (view.turn + 1)
+AtEnd Is view stage = ⊤
+
+module _ (slot : (session turn : ℕ) → ℕ) (given : Given) (journal : List Entry) where
+  -- Of the kills that stand on the session's own desk none was seen that early.
+  abbrev pub SeesNone : Course → (b last : ℕ) → Type 0
+  SeesNone course b last = All
+      (λ was. IsKillOf slot given b was → GoesOnBefore slot given course b last (slot_of slot was))
+      journal
+
+  abbrev pub SpendsNone : (journals : ℕ → List Entry) → Course → (b last : ℕ) → Type 0
+  SpendsNone journals course b last = All
+      (λ was. IsKillOf slot given b was
+      → SpendsBefore slot given journals course b last (slot_of slot was))
+      journal
+
+-- An End is of a statement that was answered.
+abbrev pub IsAnswered : (answers : List Answer) → Event → Type 0
+IsAnswered answers (End number outcome steps) = (1 ≤ number) × (number ≤ length answers)
+IsAnswered answers event = ⊤
+
+-- How a session's statements stand, to which these answers were given.
+module _ (slot : (session turn : ℕ) → ℕ) (given : Given) (journals : ℕ → List Entry)
+    (answers : List Answer) where
+  abbrev pub EndsInTime : List Entry → Entry → Type 0
+  EndsInTime before entry =
+      IsAnswered answers entry.event × LooksInTime slot given journals answers before entry
+      × StopsInTime slot given journals answers before entry
+
+-- How the statements of a session stand, whatever comes later, where its worker holds this.
+pub record IsInCourse (gives : Answers) (slot : (session turn : ℕ) → ℕ) (place : ℕ) (plain : Plain)
+    (given : Given) (view : View) : Type 0 where
+  pub answers : List Answer
+  pub follows : Follows view ((world_of plain).seen given.session) answers
+      ((world_of plain).mine given.session)
+  pub were_given : WereGiven gives view view.stage answers
+  -- those that have ended
+  pub ended : (journals : ℕ → List Entry) → AreLater slot place plain journals →
+      AreEach (EndsInTime slot given journals answers) [] (desk_at plain given.session).journal
+  -- the one that is on: it has looked for nothing in vain that was there, and has seen no kill
+  pub looks : (journals : ℕ → List Entry) → AreLater slot place plain journals →
+      LooksInVain slot given journals (course_at view) view.began (ends_by view view.stage)
+  pub stops : (journals : ℕ → List Entry) → AreLater slot place plain journals →
+      SeesNone slot given (desk_at plain given.session).journal (course_at view) view.began
+      (ends_by view view.stage)
+      × AtEnd (SpendsNone slot given (desk_at plain given.session).journal journals) view view.stage
+
+-- How the statements of all sessions stand.
+abbrev pub AreInCourse : Answers → (slot : (session turn : ℕ) → ℕ) → (place : ℕ) → AllSessions
+    → Type 0
+AreInCourse gives slot place all =
+    (session : ℕ) → 1 ≤ session → session ≤ length all.views → IsInCourse gives slot place all.plain
+    (view_in all.views session).given (view_in all.views session)
 
 -- The turns that are left to a session come so many places later.
 abbrev pub GoesOn : (slot rest : (session turn : ℕ) → ℕ) → (place : ℕ) → List View → Type 0
