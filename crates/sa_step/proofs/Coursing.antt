@@ -1,5 +1,5 @@
 -- What is known along the course of a statement, from turn to turn.
-use Rattle.std.proofs.Common.{◌≡◌, ℕ, ◌+◌, ◌*◌, ◌<◌, ◌≤◌, Bool, true, false, refl, sym, subst, ap, ◌∙◌, arith}
+use Rattle.std.proofs.Common.{◌≡◌, ℕ, ◌+◌, ◌≤◌, Bool, true, false, refl, sym, subst, ap, arith}
 use Rattle.std.specs.Prelude.{⊤}
 use Rattle.sa_ast.specs.declared.kind.AskKind.{AskKind}
 use Rattle.sa_plan.specs.declared.plan.Planned.{Planned}
@@ -7,8 +7,6 @@ use Rattle.sa_plan.specs.declared.prepared.Work.TheVariants as work
 use Rattle.sa_meaning.specs.Progress.{Progress}
 use Rattle.sa_desk.specs.declared.answer.Asked.{Asked}
 use Rattle.sa_desk.specs.declared.answer.Asked.TheVariants as asked
-use Rattle.sa_desk.specs.declared.answer.Begun.{Begun}
-use Rattle.sa_desk.specs.declared.answer.Begun.TheVariants as begun
 use Rattle.sa_desk.specs.declared.answer.Killed.{Killed}
 use Rattle.sa_desk.specs.declared.answer.Killed.TheVariants as killed
 use Rattle.sa_desk.specs.declared.answer.Looked.{Looked}

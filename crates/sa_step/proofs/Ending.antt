@@ -1,6 +1,6 @@
 -- A statement that ends has taken its course in time, and stays one that did.
-use Rattle.std.proofs.Common.{◌≡◌, ℕ, ◌+◌, ◌-◌, ◌<◌, ◌≤◌, List, [], ◌∷◌, ◌++◌, length, All, Some, refl, sym, subst, subst₂, ap, ◌∙◌, arith, length-append, append_assoc, append-nil}
-use Rattle.std.specs.Prelude.{⊤, slice_index_or}
+use Rattle.std.proofs.Common.{◌≡◌, ℕ, ◌+◌, ◌-◌, ◌≤◌, List, [], ◌∷◌, ◌++◌, length, All, refl, sym, subst, subst₂, ap, ◌∙◌, arith, length-append, append-nil}
+use Rattle.std.specs.Prelude.{slice_index_or}
 use Rattle.std.proofs.lemmas.List.{get_or_append_left, get_or-append_right}
 use Rattle.std.proofs.lemmas.List.Elements.{All-nil, All-cons, All-head, All-tail, All-append, All-weaker}
 use Rattle.sa_count.specs.declared.report.Report.{Report}
@@ -15,9 +15,8 @@ use Rattle.sa_desk.specs.After.{after, served, after_serving}
 use Rattle.sa_desk.specs.Contents.{Contents, later, entry_by}
 use Rattle.sa_desk.specs.Runs.{state_after, state_of}
 use Rattle.sa_desk.specs.Serving.{begin_turn, served_with}
-use Rattle.sa_desk.specs.program.Course.{Given, Answer, starved, Settings, settings_after, at_first, Course, says, shows, waits, kills, runs, course_of}
+use Rattle.sa_desk.specs.program.Course.{Given, Answer, starved, Settings, settings_after, at_first, Course, course_of}
 use Rattle.sa_desk.specs.program.Statement.{Statements}
-use Rattle.sa_desk.specs.program.SoFar.{terms_of}
 use Rattle.sa_desk.proofs.Append.{state_of-append}
 use Rattle.sa_worker.specs.View.{View, Stage}
 use Rattle.sa_worker.specs.View as stages
@@ -132,9 +131,10 @@ module _ (slot : (session turn : ℕ) → ℕ) (given : Given) (journals : ℕ �
     (same : view.given ≡ given) where
   course_is : course_to slot given journals (answers ++ view.answer ∷ []) view.number ≡ course_at view
   course_is =
+      let first : view.number - 1 - length answers ≡ 0 = omega (arith, count) in
       let here : slice_index_or (answers ++ view.answer ∷ []) (view.number - 1) (starved []) ≡ view.answer =
       get_or-append_right answers (view.answer ∷ []) (length answers) (view.number - 1) (starved []) refl (omega (arith, count))
-      ∙ ap (λ index. slice_index_or (view.answer ∷ []) index (starved [])) (omega (arith, count)) in
+      ∙ ap (λ index. slice_index_or (view.answer ∷ []) index (starved [])) first in
       ap (course_of given at_first) here ∙ ap (λ (given : Given). course_of given at_first view.answer) (sym same)
 
   pub ends_in : (journal served : List Entry) (entry : Entry) (outcome : Outcome) (steps : ℕ) → entry.event ≡ End view.number outcome steps → entry.turn ≡ view.turn + 1
@@ -151,8 +151,7 @@ module _ (slot : (session turn : ℕ) → ℕ) (given : Given) (journals : ℕ �
       All-append (IsTold (course_at view) view.began (view.turn + 1)) journal served
       (λ k d there kill. (stops k d there kill, spends k d there kill))
       (All-weaker (λ entry. IsKill entry.event → ⊥) (IsTold (course_at view) view.began (view.turn + 1)) (λ was none kill. absurd (none kill.0)) served quiet) in
-      subst (λ event. IsAnswered all event × IsLooked slot given journals all (journal ++ served) entry event × IsStopped slot given journals all (journal ++ served) entry event) (sym is)
-      (
+      subst (λ event. IsAnswered all event × IsLooked slot given journals all (journal ++ served) entry event × IsStopped slot given journals all (journal ++ served) entry event) (sym is) (
         (omega (arith, count), omega (arith, count, long)),
         subst (λ course. LooksInVain slot given journals course (begun_in slot given journals all (journal ++ served)) entry.turn) (sym course_is)
             (subst₂ (λ b last. LooksInVain slot given journals (course_at view) b last) (sym began) (sym turn) looks),

@@ -23,3 +23,6 @@ pub mod Coursing
 pub mod Looking
 pub mod Stopping
 pub mod Ending
+pub mod Advancing
+pub mod Programs
+pub mod Courses

@@ -1,5 +1,5 @@
 -- Which calls enter an End, a kill or a request that is spent.
-use Rattle.std.proofs.Common.{ℕ, ◌≡◌, ◌≢◌, ◌+◌, ◌==◌, if◌then◌else◌, Bool, true, false, List, [], ◌∷◌, map, All, nat_lt, Option, Some, None, refl}
+use Rattle.std.proofs.Common.{ℕ, ◌≢◌, ◌+◌, ◌==◌, if◌then◌else◌, Bool, true, false, List, [], ◌∷◌, map, All, nat_lt, Option, Some, None, refl}
 use Rattle.std.specs.Prelude.{⊤}
 use Rattle.std.proofs.lemmas.List.Elements.{All-nil, All-cons, All-append}
 use Rattle.sa_ast.specs.declared.kind.AskKind.{AskKind}

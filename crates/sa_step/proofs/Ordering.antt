@@ -19,6 +19,7 @@ use Rattle.sa_step.specs.Sessions.{AllSessions, AreRunning, first_in, first_view
 use Rattle.sa_step.specs.Schedule.{slot, AreEach, slot_of, ComesLast, FindsCounted, LeavesUnseen, TakesFirst, slots, desk_terms, InSchedule}
 use Rattle.sa_step.specs.Turns.{GoesBy}
 use Rattle.sa_step.specs.inner.Timely.{IsTimely, AreUnseen, IsAsked, polled_at, IsLateFor, AreLateFor, AreUntaken, IsOnTime, IsInRounds, in_round}
+use Rattle.sa_step.proofs.Courses.{course_first}
 use Rattle.sa_step.proofs.Driven.{nobody}
 use Rattle.sa_step.proofs.Passing.{Passes, on_time_next, Passes-named, Passes-round, round_begins, round_ends, IsOnTime-same}
 
@@ -27,16 +28,19 @@ module _ (gives : Answers) (all : AllSessions) (first : all.views ≡ first_view
   count_is : length all.views ≡ length all.script.texts
   count_is = running.workers
 
-  no_turns : (session : ℕ) → 1 ≤ session → session ≤ length all.views → (view_in all.views session).turn ≡ 0
-  no_turns session least most =
+  first_is : (session : ℕ) → 1 ≤ session → session ≤ length all.views → view_in all.views session ≡ first_in all.script session
+  first_is session least most =
       let count = count_is in
-      ap (λ views. (view_in views session).turn) first
-      ∙ ap (λ (view : View). view.turn) (get_or-map-range_with_len (first_in all.script) 1 (length all.script.texts) (session - 1) session nobody (omega (arith, least, most, count)) (omega (arith, least)))
+      ap (λ views. view_in views session) first
+      ∙ get_or-map-range_with_len (first_in all.script) 1 (length all.script.texts) (session - 1) session nobody (omega (arith, least, most, count)) (omega (arith, least))
+
+  no_turns : (session : ℕ) → 1 ≤ session → session ≤ length all.views → (view_in all.views session).turn ≡ 0
+  no_turns session least most = ap (λ (view : View). view.turn) (first_is session least most)
 
   no_entries : (desk : ℕ) → 1 ≤ desk → desk ≤ length all.plain.desks → (desk_at all.plain desk).journal ≡ []
   no_entries desk least most = empty (desk - 1) no_desk (omega (arith, least, most))
 
-  pub on_time_first : (schedule : List ℕ) → IsOnTime (slots all.script schedule) (slot (length all.views) schedule) 0 all
+  pub on_time_first : (schedule : List ℕ) → IsOnTime gives (slots all.script schedule) (slot (length all.views) schedule) 0 all
   on_time_first schedule =
       let times = slots all.script schedule in
       record {
@@ -61,6 +65,13 @@ module _ (gives : Answers) (all : AllSessions) (first : all.views ≡ first_view
               (sym (no_entries desk least most)) (All-nil (λ (reply : Reply). reply.asker ≡ asker → Any (IsLateFor times asker turns reply.request) []));
           first = λ desk least most. subst (AreEach (TakesFirst times) []) (sym (no_entries desk least most)) tt;
         };
+        in_course = λ session least most.
+            let count = count_is in
+            let desks = running.desks in
+            let there : session ≤ length all.script.texts = omega (arith, most, count) in
+            let number : (view_in all.views session).given.session ≡ session = ap (λ (given : Given). given.session) (running.working.given session least there) in
+            course_first gives times all running session least there (ap (λ (view : View). view.stage) (first_is session least most))
+            (subst (λ desk. (desk_at all.plain desk).journal ≡ []) (sym number) (no_entries session least (omega (arith, there, desks))));
         goes_on = λ session least most undone turn from.
             let none = no_turns session least most in
             let same : (view_in all.views session).turn + turn ≡ turn = omega (arith, none) in
@@ -71,17 +82,17 @@ module _ (gives : Answers) (all : AllSessions) (first : all.views ≡ first_view
 -- The next place of a schedule.
 pub on_time_named : (gives : Answers) (slots : (session turn : ℕ) → ℕ) (sessions : ℕ) (schedule : List ℕ) (index session : ℕ) (before after : AllSessions) → AreRunning gives before
     → length before.views ≡ sessions → length after.views ≡ sessions → index < length schedule → slice_index_or schedule index 0 ≡ session → 1 ≤ session → session ≤ sessions
-    → IsOnTime slots (slot sessions (drop index schedule)) index before → GoesBy gives before session after → IsOnTime slots (slot sessions (drop (index + 1) schedule)) (index + 1) after
+    → IsOnTime gives slots (slot sessions (drop index schedule)) index before → GoesBy gives before session after → IsOnTime gives slots (slot sessions (drop (index + 1) schedule)) (index + 1) after
 on_time_named gives slots sessions schedule index session before after running were are there named least most on_time by =
     let parts : drop index schedule ≡ session ∷ drop (index + 1) schedule = drop_more schedule index 0 there ∙ ap (λ session. session ∷ drop (index + 1) schedule) named in
     on_time_next gives slots (slot sessions (session ∷ drop (index + 1) schedule)) (slot sessions (drop (index + 1) schedule)) index before after running (are ∙ sym were) session least
-    (omega (arith, most, were)) (subst (λ left. IsOnTime slots (slot sessions left) index before) parts on_time)
+    (omega (arith, most, were)) (subst (λ left. IsOnTime gives slots (slot sessions left) index before) parts on_time)
     (subst (λ count. Passes count (slot sessions (session ∷ drop (index + 1) schedule)) (slot sessions (drop (index + 1) schedule)) session) (sym were) (Passes-named sessions (drop (index + 1) schedule) session)) by
 
 -- The next place of a round.
 pub on_time_round : (gives : Answers) (slots : (session turn : ℕ) → ℕ) (sessions index place session : ℕ) (before after : AllSessions) → AreRunning gives before
     → length before.views ≡ sessions → length after.views ≡ sessions → index < sessions → session ≡ index + 1
-    → IsOnTime slots (in_round sessions index) place before → GoesBy gives before session after → IsOnTime slots (in_round sessions (index + 1)) (place + 1) after
+    → IsOnTime gives slots (in_round sessions index) place before → GoesBy gives before session after → IsOnTime gives slots (in_round sessions (index + 1)) (place + 1) after
 on_time_round gives slots sessions index place session before after running were are there named on_time by =
     let here = subst (λ session. GoesBy gives before session after) named by in
     on_time_next gives slots (in_round sessions index) (in_round sessions (index + 1)) place before after running (are ∙ sym were) (index + 1) (omega arith)
@@ -89,25 +100,25 @@ on_time_round gives slots sessions index place session before after running were
     (subst (λ count. Passes count (in_round sessions index) (in_round sessions (index + 1)) (index + 1)) (sym were) (Passes-round sessions index there)) here
 
 -- Behind the schedule rounds begin.
-pub schedule_last : (slots : (session turn : ℕ) → ℕ) (sessions : ℕ) (schedule : List ℕ) (index : ℕ) (all : AllSessions) → length all.views ≡ sessions → length schedule ≤ index
-    → IsOnTime slots (slot sessions (drop index schedule)) index all → IsInRounds slots all
-schedule_last slots sessions schedule index all count whole on_time =
-    (index, subst (λ count. IsOnTime slots (slot count []) index all) (sym count) (subst (λ left. IsOnTime slots (slot sessions left) index all) (drop_all index schedule whole) on_time))
+pub schedule_last : (gives : Answers) (slots : (session turn : ℕ) → ℕ) (sessions : ℕ) (schedule : List ℕ) (index : ℕ) (all : AllSessions) → length all.views ≡ sessions → length schedule ≤ index
+    → IsOnTime gives slots (slot sessions (drop index schedule)) index all → IsInRounds gives slots all
+schedule_last gives slots sessions schedule index all count whole on_time =
+    (index, subst (λ count. IsOnTime gives slots (slot count []) index all) (sym count) (subst (λ left. IsOnTime gives slots (slot sessions left) index all) (drop_all index schedule whole) on_time))
 
 -- A round begins, and ends.
-pub round_first : (slots : (session turn : ℕ) → ℕ) (sessions place : ℕ) (all : AllSessions) → IsOnTime slots (slot sessions []) place all → IsOnTime slots (in_round sessions 0) (place + 0) all
-round_first slots sessions place all on_time =
+pub round_first : (gives : Answers) (slots : (session turn : ℕ) → ℕ) (sessions place : ℕ) (all : AllSessions) → IsOnTime gives slots (slot sessions []) place all → IsOnTime gives slots (in_round sessions 0) (place + 0) all
+round_first gives slots sessions place all on_time =
     let same : place ≡ place + 0 = omega arith in
-    subst (λ place. IsOnTime slots (in_round sessions 0) place all) same
-    (IsOnTime-same slots (slot sessions []) (in_round sessions 0) place all (λ session turn least most from. round_begins sessions session turn least) on_time)
+    subst (λ place. IsOnTime gives slots (in_round sessions 0) place all) same
+    (IsOnTime-same gives slots (slot sessions []) (in_round sessions 0) place all (λ session turn least most from. round_begins sessions session turn least) on_time)
 
-pub round_last : (slots : (session turn : ℕ) → ℕ) (sessions index place : ℕ) (all : AllSessions) → length all.views ≡ sessions → index ≡ sessions
-    → IsOnTime slots (in_round sessions index) (place + index) all → IsInRounds slots all
-round_last slots sessions index place all count whole on_time =
-    let end : IsOnTime slots (in_round sessions sessions) (place + index) all = subst (λ passed. IsOnTime slots (in_round sessions passed) (place + index) all) whole on_time in
-    let same = IsOnTime-same slots (in_round sessions sessions) (slot sessions []) (place + index) all
+pub round_last : (gives : Answers) (slots : (session turn : ℕ) → ℕ) (sessions index place : ℕ) (all : AllSessions) → length all.views ≡ sessions → index ≡ sessions
+    → IsOnTime gives slots (in_round sessions index) (place + index) all → IsInRounds gives slots all
+round_last gives slots sessions index place all count whole on_time =
+    let end : IsOnTime gives slots (in_round sessions sessions) (place + index) all = subst (λ passed. IsOnTime gives slots (in_round sessions passed) (place + index) all) whole on_time in
+    let same = IsOnTime-same gives slots (in_round sessions sessions) (slot sessions []) (place + index) all
     (λ session turn least most from. round_ends sessions session turn least (omega (arith, most, count)) from) end in
-    (place + index, subst (λ count. IsOnTime slots (slot count []) (place + index) all) (sym count) same)
+    (place + index, subst (λ count. IsOnTime gives slots (slot count []) (place + index) all) (sym count) same)
 
 module _ (gives : Answers) (all : AllSessions) (running : AreRunning gives all) where
   abbrev journals : List (List Entry)

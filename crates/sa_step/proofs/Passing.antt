@@ -10,6 +10,8 @@ use Rattle.sa_step.specs.Schedule as schedules
 use Rattle.sa_step.specs.Schedule.{slot_of}
 use Rattle.sa_step.specs.Turns.{TakesTurn, GoesBy}
 use Rattle.sa_step.specs.inner.Timely.{IsTimely, GoesOn, IsOnTime, in_round}
+use Rattle.sa_step.proofs.Advancing.{in_course_turn}
+use Rattle.sa_step.proofs.Courses.{course_later}
 use Rattle.sa_step.proofs.Taken.{untaken_turn}
 use Rattle.sa_step.proofs.Timed.{timely_turn, unseen_turn}
 
@@ -29,7 +31,7 @@ timely_later slot place all timely = record {
 }
 
 module _ (gives : Answers) (slot rest later : (session turn : ℕ) → ℕ) (place : ℕ) (before after : AllSessions) (running : AreRunning gives before)
-    (count : length after.views ≡ length before.views) (session : ℕ) (least : 1 ≤ session) (most : session ≤ length before.views) (on_time : IsOnTime slot rest place before)
+    (count : length after.views ≡ length before.views) (session : ℕ) (least : 1 ≤ session) (most : session ≤ length before.views) (on_time : IsOnTime gives slot rest place before)
     (passes : Passes (length before.views) rest later session) where
   goes_on : GoesOn slot rest place before.views
   goes_on = on_time.goes_on
@@ -68,29 +70,31 @@ module _ (gives : Answers) (slot rest later : (session turn : ℕ) → ℕ) (pla
               (others_on other low (omega (arith, high, count)) apart (subst (λ (view : View). view.stage ≢ done) same undone) turn from)
         ]
 
-    taken_on : IsOnTime slot later (place + 1) after
+    taken_on : IsOnTime gives slot later (place + 1) after
     taken_on = record {
       timely = timely_turn gives slot place before after running session least most takes on_time.timely here ahead count;
       unseen = unseen_turn gives slot place before after running session least most takes on_time.timely here ahead on_time.unseen;
       untaken = untaken_turn gives slot place before after running session least most takes on_time.timely here ahead on_time.untaken count;
+      in_course = in_course_turn gives slot place before after running session least most takes on_time.timely here ahead on_time.in_course count;
       goes_on = goes_after;
     }
 
-  passed_on : (view_in before.views session).stage ≡ done → IsOnTime slot later (place + 1) before
+  passed_on : (view_in before.views session).stage ≡ done → IsOnTime gives slot later (place + 1) before
   passed_on over = record {
     timely = timely_later slot place before on_time.timely;
     unseen = on_time.unseen;
     untaken = on_time.untaken;
+    in_course = λ other low high. course_later gives slot place before.plain (view_in before.views other).given (view_in before.views other) (on_time.in_course other low high);
     goes_on = λ other low high undone turn from. elim (cases_eq other session) [
       | inl is ↦ absurd (undone (subst (λ other. (view_in before.views other).stage ≡ done) (sym is) over))
       | inr apart ↦ others_on other low high apart undone turn from
     ];
   }
 
-  pub on_time_next : GoesBy gives before session after → IsOnTime slot later (place + 1) after
+  pub on_time_next : GoesBy gives before session after → IsOnTime gives slot later (place + 1) after
   on_time_next by = elim by [
     | inl takes ↦ taken_on takes
-    | inr passed ↦ subst (IsOnTime slot later (place + 1)) (sym passed.0) (passed_on passed.1)
+    | inr passed ↦ subst (IsOnTime gives slot later (place + 1)) (sym passed.0) (passed_on passed.1)
   ]
 
 -- the next place of the schedule
@@ -139,11 +143,12 @@ module _ (sessions : ℕ) where
       let many = whole turn from in rw first (omega (arith, many))
 
 -- The same turns are left, in other words.
-pub IsOnTime-same : (slot rest other : (session turn : ℕ) → ℕ) (place : ℕ) (all : AllSessions)
-    → ((session turn : ℕ) → 1 ≤ session → session ≤ length all.views → 1 ≤ turn → rest session turn ≡ other session turn) → IsOnTime slot rest place all → IsOnTime slot other place all
-IsOnTime-same slot rest other place all same on_time = record {
+pub IsOnTime-same : (gives : Answers) (slot rest other : (session turn : ℕ) → ℕ) (place : ℕ) (all : AllSessions)
+    → ((session turn : ℕ) → 1 ≤ session → session ≤ length all.views → 1 ≤ turn → rest session turn ≡ other session turn) → IsOnTime gives slot rest place all → IsOnTime gives slot other place all
+IsOnTime-same gives slot rest other place all same on_time = record {
   timely = on_time.timely;
   unseen = on_time.unseen;
   untaken = on_time.untaken;
+  in_course = on_time.in_course;
   goes_on = λ session least most undone turn from. on_time.goes_on session least most undone turn from ∙ ap (λ far. place + far) (same session turn least most from);
 }

@@ -1,7 +1,7 @@
 -- For a statement that is not killed no kill came after its Begin.
-use Rattle.std.proofs.Common.{◌≡◌, ℕ, ◌<◌, ◌≤◌, true, false, Option, Some, None, List, [], ◌∷◌, ◌++◌, All, refl, sym, subst, ap, ◌∙◌, arith, append_assoc, append-nil}
+use Rattle.std.proofs.Common.{◌≡◌, ℕ, ◌<◌, ◌≤◌, false, Option, Some, None, List, [], ◌∷◌, ◌++◌, All, refl, sym, subst, ap, arith, append_assoc, append-nil}
 use Rattle.std.specs.Prelude.{⊤}
-use Rattle.std.proofs.lemmas.List.Elements.{All-nil, All-push, All-weaker}
+use Rattle.std.proofs.lemmas.List.Elements.{All-push, All-weaker}
 use Rattle.sa_ast.specs.declared.kind.KillKind.{KillKind}
 use Rattle.sa_meaning.specs.Data.{RunData}
 use Rattle.sa_plan.specs.declared.plan.Plan.{Plan}
@@ -10,7 +10,7 @@ use Rattle.sa_desk.specs.declared.entry.Event.{Event}
 use Rattle.sa_desk.specs.declared.entry.Event.TheVariants.{Begin, Queued, Refused, Served, Taken, Spent, Withdrawn, KillSent, Waited, WaitSpent, End, Gone, Close}
 use Rattle.sa_desk.specs.declared.request.Request.{Request}
 use Rattle.sa_desk.specs.State.{Terms, Statement, Execution, Phase, idle, unplanned, planned, serving, closed, State, start}
-use Rattle.sa_desk.specs.Comes.{Comes, ComesIn}
+use Rattle.sa_desk.specs.Comes.{ComesIn}
 use Rattle.sa_desk.specs.After.{after, after_event, begun, queued, showing, taken_out, killed, served, after_serving}
 use Rattle.sa_desk.specs.Own.{Outline, free, plainly, running, over, outline}
 use Rattle.sa_desk.specs.Runs.{Runs, state_after, state_of}

@@ -6,8 +6,6 @@
 mod sessions;
 mod starts;
 mod step;
-mod probe;
 
 pub use sessions::Sessions;
 pub use step::step_sessions;
-pub use probe::nothing;

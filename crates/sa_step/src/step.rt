@@ -5,6 +5,7 @@ ghost use Rattle.sa_worker.specs.View.{done};
 ghost use Rattle.sa_step.specs.Sessions.{MayStart, AreSound, AreRunning, view_in};
 ghost use Rattle.sa_step.specs.Remaining.{remaining, AreDone, IsSession};
 ghost use Rattle.sa_step.specs.Schedule.{InSchedule, slot};
+ghost use Rattle.sa_step.specs.Course.{InCourse};
 ghost use Rattle.sa_step.specs.Turns.{GoesBy};
 ghost use Rattle.sa_step.specs.inner.Timely.{IsOnTime, IsInRounds};
 
@@ -56,6 +57,12 @@ pub fn step_sessions<P: Preparer>(
       quantum = quantum;
       turns = turns;
     }) schedule.now) }
+    ensures in_course { IfOk result (InCourse (P.answers prepare.now) (record {
+      tables = arc_value tables;
+      texts = statements.items;
+      quantum = quantum;
+      turns = turns;
+    }) schedule.now) }
 {
     let mut sessions = Sessions::new(alloc, prepare, tables, statements, quantum, turns)?;
     take_schedule(&mut sessions, prepare, schedule);
@@ -70,8 +77,8 @@ fn take_schedule<P: Preparer>(sessions: &mut Sessions, prepare: &P, schedule: &[
     ensures running { AreRunning (P.answers prepare.now) sessions.new }
     ensures script { sessions.new.script ≡ sessions.old.script }
     ensures timed { (slots : ℕ → ℕ → ℕ) →
-        IsOnTime slots (slot (length sessions.old.views) schedule.now) 0 sessions.old →
-        IsInRounds slots sessions.new }
+        IsOnTime (P.answers prepare.now) slots (slot (length sessions.old.views) schedule.now) 0 sessions.old →
+        IsInRounds (P.answers prepare.now) slots sessions.new }
 {
     for session in schedule {
         let _taken = take_turn(sessions, prepare, *session);
@@ -84,8 +91,8 @@ fn take_rounds<P: Preparer>(sessions: &mut Sessions, prepare: &P)
     ensures running { AreRunning (P.answers prepare.now) sessions.new }
     ensures script { sessions.new.script ≡ sessions.old.script }
     ensures finished { AreDone sessions.new.views }
-    ensures timed { (slots : ℕ → ℕ → ℕ) → IsInRounds slots sessions.old
-        → IsInRounds slots sessions.new }
+    ensures timed { (slots : ℕ → ℕ → ℕ) → IsInRounds (P.answers prepare.now) slots sessions.old
+        → IsInRounds (P.answers prepare.now) slots sessions.new }
 {
     while take_round(sessions, prepare) {}
 }
@@ -97,8 +104,8 @@ fn take_round<P: Preparer>(sessions: &mut Sessions, prepare: &P) -> bool
     ensures script { sessions.new.script ≡ sessions.old.script }
     ensures some { IsTrue result → remaining sessions.new.views < remaining sessions.old.views }
     ensures none { result ≡ false → AreDone sessions.new.views }
-    ensures timed { (slots : ℕ → ℕ → ℕ) → IsInRounds slots sessions.old
-        → IsInRounds slots sessions.new }
+    ensures timed { (slots : ℕ → ℕ → ℕ) → IsInRounds (P.answers prepare.now) slots sessions.old
+        → IsInRounds (P.answers prepare.now) slots sessions.new }
 {
     let mut any = false;
     for index in 0..sessions.len() {

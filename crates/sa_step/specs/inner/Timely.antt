@@ -164,15 +164,18 @@ GoesOn slot rest place views =
     (turn : ℕ) → 1 ≤ turn
     → slot session ((view_in views session).turn + turn) ≡ place + rest session turn
 
-pub record IsOnTime (slot rest : (session turn : ℕ) → ℕ) (place : ℕ) (all : AllSessions) : Type 0 where
+pub record IsOnTime (gives : Answers) (slot rest : (session turn : ℕ) → ℕ) (place : ℕ)
+    (all : AllSessions) : Type 0 where
   pub timely : IsTimely slot place all
   pub unseen : AreUnseen slot all
   pub untaken : AreUntaken slot all
+  pub in_course : AreInCourse gives slot place all
   pub goes_on : GoesOn slot rest place all.views
 
 -- Before some place, at which rounds begin.
-abbrev pub IsInRounds : (slots : (session turn : ℕ) → ℕ) → AllSessions → Type 0
-IsInRounds slots all = (place : ℕ) × IsOnTime slots (slot (length all.views) []) place all
+abbrev pub IsInRounds : Answers → (slots : (session turn : ℕ) → ℕ) → AllSessions → Type 0
+IsInRounds gives slots all =
+    (place : ℕ) × IsOnTime gives slots (slot (length all.views) []) place all
 
 -- how many places later a turn comes in a round of so many sessions, this many of which have had theirs
 abbrev pub in_round : (sessions index : ℕ) → (session turn : ℕ) → ℕ

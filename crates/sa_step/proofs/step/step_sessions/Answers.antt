@@ -2,7 +2,9 @@ use Rattle.std.proofs.Common.{length, All, sym, subst, ap, ◌∙◌}
 use Rattle.sa_desk.specs.Legal.{Sessions, IsLegal}
 use Rattle.sa_step.specs.Remaining.{IsSession}
 use Rattle.sa_step.specs.Schedule.{slots, InSchedule}
-use Rattle.sa_step.specs.inner.Timely.{IsTimely, AreUnseen, AreUntaken}
+use Rattle.sa_step.specs.Course.{InCourse}
+use Rattle.sa_step.specs.inner.Timely.{IsTimely, AreUnseen, AreUntaken, AreInCourse}
+use Rattle.sa_step.proofs.Courses.{all_in_course}
 use Rattle.sa_step.proofs.Ordering.{on_time_first, timely_ordered}
 use Rattle.sa_step.proofs.Remaining.{all_legal}
 use Rattle.sa_step.proofs.step.step_sessions.Goals as goal
@@ -27,7 +29,10 @@ returns g c =
     (subst (λ script. IsTimely (slots script c.args.schedule.now) ends.0 all) (sym same) ends.1.timely)
     (subst (λ script. AreUnseen (slots script c.args.schedule.now) all) (sym same) ends.1.unseen)
     (subst (λ script. AreUntaken (slots script c.args.schedule.now) all) (sym same) ends.1.untaken) in
+    let coursed = all_in_course gives all c.finish.ensures.plain c.take_rounds.ensures.running c.take_rounds.ensures.finished c.args.schedule.now ends.0
+    (subst (λ script. AreInCourse gives (slots script c.args.schedule.now) ends.0 all) (sym same) ends.1.in_course) in
     record {
       legal = subst (λ script. IsLegal gives script c.finish.result) script (subst (IsLegal gives all.script) (sym c.finish.ensures.journals) legal);
+      in_course = subst (λ script. InCourse gives script c.args.schedule.now c.finish.result) script (subst (InCourse gives all.script c.args.schedule.now) (sym c.finish.ensures.journals) coursed);
       in_schedule = subst (λ script. InSchedule script c.args.schedule.now c.finish.result) script (subst (InSchedule all.script c.args.schedule.now) (sym c.finish.ensures.journals) ordered);
     }

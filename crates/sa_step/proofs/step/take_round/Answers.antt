@@ -23,7 +23,7 @@ loop-index-preserved g c =
           let next = on_time_round gives slots (length first.views) c.loop-index.index (place + c.loop-index.index) _ before after c.loop-index.invariant.running were are
           (omega (arith, below, all)) refl (c.loop-index.invariant.timed slots place started) c.take_turn-taken.ensures.by in
           let further : place + c.loop-index.index + 1 ≡ place + (c.loop-index.index + 1) = omega arith in
-          subst (λ at. IsOnTime slots (in_round (length first.views) (c.loop-index.index + 1)) at after) further next;
+          subst (λ at. IsOnTime (g.P.Preparer.answers c.args.prepare.now) slots (in_round (length first.views) (c.loop-index.index + 1)) at after) further next;
       some = λ is. some_left first before after c.loop-index.index c.loop-index.any c.take_turn-taken.result c.loop-index.invariant.some c.loop-index.invariant.none
           c.take_turn-taken.ensures.some c.take_turn-taken.ensures.none (sym c.either-any.ensures ∙ is);
       none = λ is. none_left first before after c.loop-index.index c.loop-index.any c.take_turn-taken.result c.loop-index.invariant.none c.take_turn-taken.ensures.none (sym c.either-any.ensures ∙ is);
@@ -33,7 +33,7 @@ pub loop-index-init : goal.loop-index-init
 loop-index-init g c = record {
   running = c.requires.running;
   script = refl;
-  timed = λ slots place started. round_first slots (length c.args.sessions.now.views) place c.args.sessions.now started;
+  timed = λ slots place started. round_first (g.P.Preparer.answers c.args.prepare.now) slots (length c.args.sessions.now.views) place c.args.sessions.now started;
   some = λ any. absurd cc;
   none = λ none. (refl, λ session least most. absurd (omega (arith, least, most)));
 }
@@ -60,5 +60,5 @@ returns-clause-timed g c =
     let low = c.loop-index-test.false in
     let high = c.loop-index.auto.index-end in
     let all = c.len-index-end.ensures in
-    λ slots started. round_last slots (length first.views) c.loop-index.index started.0 last were (omega (arith, low, high, all))
+    λ slots started. round_last (g.P.Preparer.answers c.args.prepare.now) slots (length first.views) c.loop-index.index started.0 last were (omega (arith, low, high, all))
     (c.loop-index.invariant.timed slots started.0 started.1)

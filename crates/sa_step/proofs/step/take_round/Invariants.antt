@@ -11,8 +11,8 @@ abbrev pub invariant-loop-index : goal.invariant-loop-index
 invariant-loop-index g l = record {
   running : AreRunning (g.P.Preparer.answers l.prepare) l.sessions;
   script : l.sessions.script ≡ l.fn.sessions.script;
-  timed : (slots : ℕ → ℕ → ℕ) (place : ℕ) → IsOnTime slots (slot (length l.fn.sessions.views) []) place l.fn.sessions
-      → IsOnTime slots (in_round (length l.fn.sessions.views) l.index) (place + l.index) l.sessions;
+  timed : (slots : ℕ → ℕ → ℕ) (place : ℕ) → IsOnTime (g.P.Preparer.answers l.prepare) slots (slot (length l.fn.sessions.views) []) place l.fn.sessions
+      → IsOnTime (g.P.Preparer.answers l.prepare) slots (in_round (length l.fn.sessions.views) l.index) (place + l.index) l.sessions;
   some : l.any ≡ true → remaining l.sessions.views < remaining l.fn.sessions.views;
   none : l.any ≡ false → (l.sessions ≡ l.fn.sessions) × ((session : ℕ) → 1 ≤ session → session ≤ l.index → (view_in l.sessions.views session).stage ≡ done);
 }

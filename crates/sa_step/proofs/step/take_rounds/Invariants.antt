@@ -9,7 +9,7 @@ abbrev pub invariant-loop : goal.invariant-loop
 invariant-loop g l = record {
   running : AreRunning (g.P.Preparer.answers l.prepare) l.sessions;
   script : l.sessions.script ≡ l.fn.sessions.script;
-  timed : (slots : ℕ → ℕ → ℕ) → IsInRounds slots l.fn.sessions → IsInRounds slots l.sessions;
+  timed : (slots : ℕ → ℕ → ℕ) → IsInRounds (g.P.Preparer.answers l.prepare) slots l.fn.sessions → IsInRounds (g.P.Preparer.answers l.prepare) slots l.sessions;
 }
 
 abbrev pub decreases-loop : goal.decreases-loop

@@ -33,4 +33,4 @@ returns-clause-timed g c =
     let first = c.args.sessions.now in
     let last = c.loop-session.sessions in
     let were = count_same (g.P.Preparer.answers c.args.prepare.now) first last c.requires.running c.loop-session.invariant.running c.loop-session.invariant.script in
-    λ slots started. schedule_last slots (length first.views) c.args.schedule.now c.loop-session.session-index last were c.loop-session-test.false (c.loop-session.invariant.timed slots started)
+    λ slots started. schedule_last (g.P.Preparer.answers c.args.prepare.now) slots (length first.views) c.args.schedule.now c.loop-session.session-index last were c.loop-session-test.false (c.loop-session.invariant.timed slots started)

@@ -9,6 +9,6 @@ abbrev pub invariant-loop-session : goal.invariant-loop-session
 invariant-loop-session g l = record {
   running : AreRunning (g.P.Preparer.answers l.prepare) l.sessions;
   script : l.sessions.script ≡ l.fn.sessions.script;
-  timed : (slots : ℕ → ℕ → ℕ) → IsOnTime slots (slot (length l.fn.sessions.views) l.schedule) 0 l.fn.sessions
-      → IsOnTime slots (slot (length l.fn.sessions.views) (drop l.session-index l.schedule)) l.session-index l.sessions;
+  timed : (slots : ℕ → ℕ → ℕ) → IsOnTime (g.P.Preparer.answers l.prepare) slots (slot (length l.fn.sessions.views) l.schedule) 0 l.fn.sessions
+      → IsOnTime (g.P.Preparer.answers l.prepare) slots (slot (length l.fn.sessions.views) (drop l.session-index l.schedule)) l.session-index l.sessions;
 }
