@@ -22,6 +22,7 @@ use Rattle.sa_transcript.specs.FaultLine.{fault_text}
 use Rattle.sa_step.specs.Sessions.{MayStart, AreSound}
 use Rattle.sa_step.specs.Remaining.{IsSession}
 use Rattle.sa_step.specs.Schedule.{InSchedule}
+use Rattle.sa_step.specs.Course.{InCourse}
 use Rattle.sa_legal.specs.Shows.{ShowsLawful}
 use Rattle.sa_legal.proofs.Telling.{can_be_told}
 use Rattle.sa_prepare.proofs.SoundWork.{prepared_is_sound}
@@ -85,12 +86,22 @@ module _ (script : Script) (ready tables : List Table) (texts : List (List (List
       (subst (λ tables. InSchedule (record { tables = tables; texts = texts; quantum = script.quantum; turns = script.turns }) script.schedule journals) tables_same
       (subst (λ schedule. InSchedule (record { tables = tables; texts = texts; quantum = script.quantum; turns = script.turns }) schedule journals) schedule_same scheduled))
 
+  coursed_here : (schedule : List ℕ) → schedule ≡ script.schedule → InCourse (Prepares ready) (record { tables = tables; texts = texts; quantum = script.quantum; turns = script.turns }) schedule journals
+      → InCourse (Prepares script.tables) (sessions_of script) script.schedule journals
+  coursed_here schedule schedule_same coursed =
+      subst (λ texts. InCourse (Prepares script.tables) (record { tables = script.tables; texts = texts; quantum = script.quantum; turns = script.turns }) script.schedule journals) texts_same
+      (subst (λ tables. InCourse (Prepares script.tables) (record { tables = tables; texts = texts; quantum = script.quantum; turns = script.turns }) script.schedule journals) tables_same
+      (subst (λ ready. InCourse (Prepares ready) (record { tables = tables; texts = texts; quantum = script.quantum; turns = script.turns }) script.schedule journals) ready_same
+      (subst (λ schedule. InCourse (Prepares ready) (record { tables = tables; texts = texts; quantum = script.quantum; turns = script.turns }) schedule journals) schedule_same coursed)))
+
   pub tells_journals : (schedule : List ℕ) → schedule ≡ script.schedule → InSchedule (record { tables = tables; texts = texts; quantum = script.quantum; turns = script.turns }) schedule journals
+      → InCourse (Prepares ready) (record { tables = tables; texts = texts; quantum = script.quantum; turns = script.turns }) schedule journals
       → (names : List TableNames) (text : List ℕ) → names ≡ names_of script.tables → text ≡ transcript names journals → TellsJournals script text
-  tells_journals schedule schedule_same scheduled names text same told = record {
+  tells_journals schedule schedule_same scheduled coursed names text same told = record {
     journals = journals;
     legal = legal_here;
     in_schedule = scheduled_here schedule schedule_same scheduled;
+    in_course = coursed_here schedule schedule_same coursed;
     told = told ∙ ap (λ names. transcript names journals) same;
   }
 

@@ -9,6 +9,7 @@ use Rattle.sa_prepare.specs.Prepared.{Prepares}
 use Rattle.sa_desk.specs.declared.entry.Entry.{Entry}
 use Rattle.sa_desk.specs.Legal.{Sessions, IsLegal}
 use Rattle.sa_step.specs.Schedule.{InSchedule}
+use Rattle.sa_step.specs.Course.{InCourse}
 use Rattle.sa_transcript.specs.Transcript.{transcript}
 use Rattle.sa_transcript.specs.FaultLine.{fault_text}
 
@@ -22,11 +23,12 @@ sessions_of script = record {
 }
 
 -- The text is what is printed for journals that are legal for the script's sessions, and in the order
--- of its schedule.
+-- of its schedule, in which waits and killed statements end when they must.
 pub record TellsJournals (script : Script) (text : List ℕ) : Type 0 where
   pub journals : List (List Entry)
   pub legal : IsLegal (Prepares script.tables) (sessions_of script) journals
   pub in_schedule : InSchedule (sessions_of script) script.schedule journals
+  pub in_course : InCourse (Prepares script.tables) (sessions_of script) script.schedule journals
   pub told : text ≡ transcript (names_of script.tables) journals
 
 -- No script has these bytes.

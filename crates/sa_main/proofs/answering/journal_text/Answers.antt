@@ -30,6 +30,6 @@ returns c =
     (let ready = c.new-ready.ensures in let copy = c.in_ok-clone.ensures in let first = c.in_ok-tables.ensures in let seen = c.tables.view_is in cc)
     (let first = c.in_ok-tables.ensures in let seen = c.tables.view_is in cc)
     c.into_vec-statements.ensures c.in_ok-journals.journals c.in_ok-journals.ensures.legal
-    c.as_slice.result.now c.as_slice.ensures c.in_ok-journals.ensures.in_schedule c.in_ok-names.names text.items
+    c.as_slice.result.now c.as_slice.ensures c.in_ok-journals.ensures.in_schedule c.in_ok-journals.ensures.in_course c.in_ok-names.names text.items
     (let names = c.in_ok-names.ensures in let seen = c.tables.view_is in cc) told)
     c.render.ensures
