@@ -23,6 +23,9 @@ pub mod Coursing
 pub mod Looking
 pub mod Stopping
 pub mod Ending
+pub mod Killing
 pub mod Advancing
+pub mod Unmoved
+pub mod Moved
 pub mod Programs
 pub mod Courses

@@ -10,7 +10,7 @@ use Rattle.sa_step.specs.Schedule as schedules
 use Rattle.sa_step.specs.Schedule.{slot_of}
 use Rattle.sa_step.specs.Turns.{TakesTurn, GoesBy}
 use Rattle.sa_step.specs.inner.Timely.{IsTimely, GoesOn, IsOnTime, in_round}
-use Rattle.sa_step.proofs.Advancing.{in_course_turn}
+use Rattle.sa_step.proofs.Moved.{in_course_turn}
 use Rattle.sa_step.proofs.Courses.{course_later}
 use Rattle.sa_step.proofs.Taken.{untaken_turn}
 use Rattle.sa_step.proofs.Timed.{timely_turn, unseen_turn}

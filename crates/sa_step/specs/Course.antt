@@ -13,15 +13,15 @@ use Rattle.sa_desk.specs.program.Prepares.{Answers}
 use Rattle.sa_desk.specs.program.SoFar.{terms_of}
 use Rattle.sa_step.specs.Schedule.{AreEach, slot_of, IsCounted, slots}
 
--- A statement that began in turn b sees in this turn whether it is killed, if it is still on: a run
--- at each of its points, a SHOW between two polls, and a WAIT between two looks.
+-- A statement that began in turn b looks in this turn whether it is killed, where it is still on: a
+-- run at each of its points, a SHOW between two polls, and a WAIT between two looks.
 abbrev pub SeesKills : Course → (b turn : ℕ) → Type 0
 SeesKills (runs analyze planned) b turn = b < turn
 SeesKills (shows kind desk) b turn = (polls : ℕ) × (1 ≤ polls) × (turn ≡ b + 2 * polls + 1)
 SeesKills (waits desk at) b turn = (looks : ℕ) × (1 ≤ looks) × (turn ≡ b + 2 * looks)
 SeesKills course b turn = ⊥
 
--- how many turns later it ends where it sees that it is: a SHOW first withdraws its request
+-- how many turns after a look that sees a kill its End comes: a SHOW withdraws its request between
 abbrev pub soon : Course → ℕ
 soon (shows kind desk) = 2
 soon course = 1
@@ -38,13 +38,12 @@ IsSpent event = ⊥
 
 -- The statements of one session, where turns have these slots.
 module _ (slot : (session turn : ℕ) → ℕ) (given : Given) where
-  -- On the session's own desk this is a kill of the statement that began in turn b, or of a later
-  -- one.
+  -- On the session's own desk this is a kill that came after the Begin in turn b.
   abbrev pub IsKillOf : (b : ℕ) → Entry → Type 0
   IsKillOf b was = IsKill was.event × (slot given.session b < slot_of slot was)
 
-  -- Of a statement that began in turn b and ended in turn `last`: whatever it saw before its last
-  -- look for a kill, it saw before this place.
+  -- A statement that began in turn b and ended in turn `last` looked for a kill, and then went on,
+  -- only before this place.
   abbrev pub GoesOnBefore : Course → (b last place : ℕ) → Type 0
   GoesOnBefore course b last place =
       (turn : ℕ) → SeesKills course b turn → turn + soon course < last
@@ -55,8 +54,8 @@ module _ (slot : (session turn : ℕ) → ℕ) (given : Given) where
   found_at place journal = filter (λ was. nat_lt (slot_of slot was) place) journal
 
   module _ (journals : ℕ → List Entry) where
-    -- Where a SHOW's last poll, and no withdrawal, took its request out, no look before that poll saw
-    -- a kill.
+    -- A SHOW whose request was spent by a poll, and not withdrawn, looked for a kill only before
+    -- this place.
     abbrev pub SpendsBefore : Course → (b last place : ℕ) → Type 0
     SpendsBefore (shows kind desk) b last place =
         Any (λ was. (was.actor ≡ given.session) × (was.turn + 1 ≡ last) × IsSpent was.event)
@@ -83,8 +82,8 @@ module _ (slot : (session turn : ℕ) → ℕ) (given : Given) where
 
     -- Preparation gave these answers to the session's statements, in their order.
     module _ (answers : List Answer) where
-      -- What the statement of this number does. Of the settings that stand where it begins only
-      -- what it says at once depends.
+      -- What the statement of this number does. On the settings that stand where it begins depends
+      -- only what it says at once.
       abbrev pub course_to : (number : ℕ) → Course
       course_to number =
           course_of given at_first (slice_index_or answers (number - 1) (starved []))
@@ -132,7 +131,7 @@ pub record KeepsTime (gives : Answers) (sessions : Sessions) (schedule : List �
       [] (journal_at journals session)
 
 -- So it is with the statements of all sessions.
-abbrev pub InCourse : (gives : Answers) → Sessions → (schedule : List ℕ) → List (List Entry) → Type 0
+abbrev pub InCourse : Answers → Sessions → (schedule : List ℕ) → List (List Entry) → Type 0
 InCourse gives sessions schedule journals =
     (session : ℕ) → 1 ≤ session → session ≤ length sessions.texts
     → KeepsTime gives sessions schedule journals session

@@ -113,7 +113,7 @@ abbrev pub desk_terms : Sessions → ℕ → Terms
 desk_terms sessions desk = terms_of (given_of sessions desk) desk
 
 -- The journals of a script are in the order of a schedule: so they stand, and this they tell.
--- Nothing is said of which look ends a wait, and how soon a killed statement sees that it is.
+-- Which look ends a wait, and how soon a killed statement ends, says `InCourse`.
 pub record InSchedule (sessions : Sessions) (schedule : List ℕ)
     (journals : List (List Entry)) : Type 0 where
   -- in each journal the slots never fall

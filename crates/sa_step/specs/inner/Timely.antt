@@ -1,5 +1,5 @@
 -- How the sessions stand between two places of a schedule.
-use Rattle.std.specs.Prelude.{◌≡◌, ◌≢◌, ℕ, ◌+◌, ◌-◌, ◌*◌, ◌<◌, ◌≤◌, List, [], length, All, Any, nat_lt, if◌then◌else◌, ⊤, ◌++◌}
+use Rattle.std.specs.Prelude.{◌≡◌, ◌≢◌, ℕ, ◌+◌, ◌-◌, ◌*◌, ◌<◌, ◌≤◌, ⊤, List, [], ◌++◌, length, All, Any, nat_lt, if◌then◌else◌}
 use Rattle.sa_desk.specs.declared.entry.Entry.{Entry}
 use Rattle.sa_desk.specs.declared.entry.Event.{Event}
 use Rattle.sa_desk.specs.declared.entry.Event.TheVariants.{End}
@@ -77,7 +77,7 @@ pub record AreUntaken (slot : (session turn : ℕ) → ℕ) (all : AllSessions) 
   pub first : (desk : ℕ) → 1 ≤ desk → desk ≤ length all.plain.desks →
       AreEach (TakesFirst slot) [] (desk_at all.plain desk).journal
 
--- The journals begin with those of the desks, and go on with entries of this place and of later ones.
+-- The journals begin with those of the desks, and go on with entries of this place and later ones.
 abbrev pub AreLater : (slot : (session turn : ℕ) → ℕ) → (place : ℕ) → Plain → (ℕ → List Entry)
     → Type 0
 AreLater slot place plain journals =
@@ -89,8 +89,8 @@ AreLater slot place plain journals =
 abbrev pub course_at : View → Course
 course_at view = course_of view.given at_first view.answer
 
--- A statement that is on ends no sooner than in this turn where its next look for a kill sees one:
--- all looks that it may have had for nothing come so long before.
+-- The turn in which a statement ends that is on, or ends where its next turn sees a kill. Its looks
+-- that lie far enough before it have ended nothing. 0 where none is on.
 abbrev pub ends_by : View → Stage → ℕ
 ends_by view prepares = 0
 ends_by view opens = 0
@@ -107,12 +107,13 @@ AtEnd Is view (ends result) = Is (course_at view) view.began (view.turn + 1)
 AtEnd Is view stage = ⊤
 
 module _ (slot : (session turn : ℕ) → ℕ) (given : Given) (journal : List Entry) where
-  -- Of the kills that stand on the session's own desk none was seen that early.
+  -- No kill that stands on the session's own desk came before a look after which it went on.
   abbrev pub SeesNone : Course → (b last : ℕ) → Type 0
   SeesNone course b last = All
       (λ was. IsKillOf slot given b was → GoesOnBefore slot given course b last (slot_of slot was))
       journal
 
+  -- The same of a SHOW whose request was spent.
   abbrev pub SpendsNone : (journals : ℕ → List Entry) → Course → (b last : ℕ) → Type 0
   SpendsNone journals course b last = All
       (λ was. IsKillOf slot given b was
@@ -142,7 +143,7 @@ pub record IsInCourse (gives : Answers) (slot : (session turn : ℕ) → ℕ) (p
   -- those that have ended
   pub ended : (journals : ℕ → List Entry) → AreLater slot place plain journals →
       AreEach (EndsInTime slot given journals answers) [] (desk_at plain given.session).journal
-  -- the one that is on: it has looked for nothing in vain that was there, and has seen no kill
+  -- the one that is on: its looks found nothing, and no kill stood where it looked for one
   pub looks : (journals : ℕ → List Entry) → AreLater slot place plain journals →
       LooksInVain slot given journals (course_at view) view.began (ends_by view view.stage)
   pub stops : (journals : ℕ → List Entry) → AreLater slot place plain journals →
