@@ -77,7 +77,8 @@ fn take_schedule<P: Preparer>(sessions: &mut Sessions, prepare: &P, schedule: &[
     ensures running { AreRunning (P.answers prepare.now) sessions.new }
     ensures script { sessions.new.script ≡ sessions.old.script }
     ensures timed { (slots : ℕ → ℕ → ℕ) →
-        IsOnTime (P.answers prepare.now) slots (slot (length sessions.old.views) schedule.now) 0 sessions.old →
+        IsOnTime (P.answers prepare.now) slots
+        (slot (length sessions.old.views) schedule.now) 0 sessions.old →
         IsInRounds (P.answers prepare.now) slots sessions.new }
 {
     for session in schedule {
