@@ -1,6 +1,11 @@
 //! What is left of a condition.
 
+ghost use Rattle.std.specs.Prelude.{◌≡◌, true};
+ghost use Rattle.sa_cond.specs.Typed.{is_well_typed};
+ghost use Rattle.sa_sample.specs.Sample.{sample_kinds};
+
 use crate::line::cell;
+use sa_cond::Cond;
 use sa_sample::{condition, is_typed};
 use sa_simplify::simplify;
 use sa_value::OutOfMemory;
@@ -51,9 +56,17 @@ fn becomes(rt: &impl Abort, alloc: Global, line: &str, sql: &str, wanted: &str) 
 /// The tree of the simplified condition, as it is printed.
 fn simplified(alloc: Global, sql: &str) -> Option<String> {
     let cond = condition(alloc, sql)?;
-    if !is_typed(&cond) {
-        return None;
+    if is_typed(&cond) {
+        printed(alloc, cond)
+    } else {
+        None
     }
+}
+
+/// The tree of the simplified form of a well-typed condition, as it is printed.
+fn printed(alloc: Global, cond: Cond) -> Option<String>
+    requires typed { is_well_typed sample_kinds cond ≡ true }
+{
     let simple = simplify(alloc, cond).ok()?;
     format!(in alloc; "{simple:?}").ok()
 }
