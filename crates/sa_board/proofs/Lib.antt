@@ -1,0 +1,11 @@
+pub mod Calls
+pub mod Ending
+pub mod Histories
+pub mod Lists
+pub mod Locks
+pub mod Meeting
+pub mod NewDesks
+pub mod Passes
+pub mod Passing
+pub mod Sentences
+pub mod step
