@@ -1,12 +1,17 @@
 -- One call of a desk that is out with a pass.
-use Rattle.std.proofs.Common.{◌≡◌, ◌≢◌, ℕ, ◌+◌, ◌≤◌, eqb, eq-eqb, ne_eqb, ◌&&◌, not, Bool, true, false, inl, inr, List, [], ◌∷◌, ◌++◌, length, drop, if◌then◌else◌, Option, Some, All, refl, sym, ap, subst, ◌∙◌, arith, append-nil}
+use Rattle.std.proofs.Common.{◌≡◌, ◌≢◌, ℕ, ◌+◌, ◌≤◌, eqb, eq-eqb, ne_eqb, ◌&&◌, not, Bool, true, false, inl, inr, List, [], ◌++◌, length, drop, if◌then◌else◌, Option, Some, unwrap_or, refl, sym, ap, ap₂, subst, subst₂, ◌∙◌, arith, append-nil}
 use Rattle.std.proofs.Math.Seq.{drop-length, drop-append_seam}
-use Rattle.std.proofs.lemmas.Bool.{cases_Bool, cases_eq}
+use Rattle.std.specs.Prelude.{nat_lt}
+use Rattle.std.proofs.lemmas.Bool.{cases_eq}
+use Rattle.std.proofs.lemmas.Bool.Decides.{nat_tests}
 use Rattle.std.proofs.lemmas.List.Elements.{All-nil}
 use Rattle.sa_desk.specs.declared.entry.Entry.{Entry}
+use Rattle.sa_desk.specs.declared.stamp.Caller.{Caller}
+use Rattle.sa_desk.specs.declared.stamp.Stamp.{Stamp}
 use Rattle.sa_desk.specs.Contents.{Contents, IsSound}
-use Rattle.sa_desk.specs.World.{World, Quiet, quiet_of, no_quiet, made_by, standing_on, Leaves, Begins, Meets, IsCall}
-use Rattle.sa_board.specs.Pass.{PassState, met_at, out_desk, new_entries, known_desk, world_of, IsOut}
+use Rattle.sa_desk.specs.New.{no_desk}
+use Rattle.sa_desk.specs.World.{quiet_of, no_quiet, made_by, standing_on, Leaves, Begins, next_stamp, Meets, IsCall}
+use Rattle.sa_board.specs.Pass.{PassState, met_at, out_desk, new_entries, known_desk, is_callable, world_of, IsOut}
 
 -- What is chosen where two numbers are the same, and where they aren't.
 module _ {X : Type 0} (a b : ℕ) (x y : X) where
@@ -17,11 +22,11 @@ module _ {X : Type 0} (a b : ℕ) (x y : X) where
   other apart = ap (λ (test : Bool). if test then x else y) (ne_eqb a b apart)
 
 -- A desk that was called isn't called again.
-called-once : (a b : Bool) → (a && b && not true) ≡ true → {P : Type 0} → P
-called-once true true is = absurd (cc is)
-called-once true false is = absurd (cc is)
-called-once false true is = absurd (cc is)
-called-once false false is = absurd (cc is)
+called-once : (a b c : Bool) → (a && b && (c && not true)) ≡ true → {P : Type 0} → P
+called-once true true true is = absurd (cc is)
+called-once true true false is = absurd (cc is)
+called-once true false c is = absurd (cc is)
+called-once false b c is = absurd (cc is)
 
 module _ (pass : PassState) where
   known-out : known_desk pass pass.out ≡ out_desk pass
@@ -128,9 +133,9 @@ module _ (pass : PassState) (out : IsOut pass) (fresh : pass.called ≡ false) w
       quiet_elsewhere = λ desk apart. own-quiet later desk ∙ ap (λ (d : Contents). quiet_of d pass.session) (same_else desk apart) ∙ sym (own-quiet pass desk);
       same_terms = same_each (λ (d : Contents). d.terms) leaves.terms;
       same_shares = same_each (λ (d : Contents). d.shares) leaves.shares;
-      left_is = λ session is. called-once (eqb pass.out pass.out) (eqb session pass.session) is;
-      elsewhere_is = λ desk session apart is. called-once (eqb desk pass.out) (eqb session pass.session) is;
-      still = λ desk session is. called-once (eqb desk pass.out) (eqb session pass.session) is;
+      left_is = λ session is. called-once (eqb pass.out pass.out) (eqb session pass.session) (nat_lt 0 pass.out) is;
+      elsewhere_is = λ desk session apart is. called-once (eqb desk pass.out) (eqb session pass.session) (nat_lt 0 pass.out) is;
+      still = λ desk session is. called-once (eqb desk pass.out) (eqb session pass.session) (nat_lt 0 pass.out) is;
     }
 
     -- The desk is out as the call has left it.
@@ -146,3 +151,102 @@ module _ (pass : PassState) (out : IsOut pass) (fresh : pass.called ≡ false) w
       uncalled = λ is. absurd (cc is);
       few = out.few;
     }
+
+-- Which desk may be called, and for whom.
+pub record IsAllowed (pass : PassState) (desk session : ℕ) : Type 0 where
+  pub desk_is : desk ≡ pass.out
+  pub session_is : session ≡ pass.session
+  pub least : 1 ≤ pass.out
+  pub fresh : pass.called ≡ false
+
+-- Two tests that are both passed.
+both-pass : (a b : Bool) → (a && b) ≡ true → (a ≡ true) × (b ≡ true)
+both-pass true b is = (refl, is)
+both-pass false b is = absurd (cc is)
+
+not-called : (called : Bool) → not called ≡ true → called ≡ false
+not-called true is = absurd (cc is)
+not-called false is = refl
+
+pub allowed-is : (pass : PassState) (desk session : ℕ) → (world_of pass).may_call desk session ≡ true → IsAllowed pass desk session
+allowed-is pass desk session may =
+    elim (cases_eq desk pass.out) [
+      | inl here ↦
+          elim (cases_eq session pass.session) [
+            | inl own ↦
+                let whole : is_callable pass ≡ true = sym (ap₂ (λ (a b : Bool). a && b && is_callable pass) (eq-eqb desk pass.out here) (eq-eqb session pass.session own)) ∙ may in
+                let parts = both-pass (nat_lt 0 pass.out) (not pass.called) whole in
+                let some = parts.0 in
+                record { desk_is = here; session_is = own; least = grind (arith, nat_tests); fresh = not-called pass.called parts.1 }
+            | inr apart ↦ refused (eqb desk pass.out) (is_callable pass) (sym (ap (λ (b : Bool). eqb desk pass.out && b && is_callable pass) (ne_eqb session pass.session apart)) ∙ may)
+          ]
+      | inr apart ↦ none (eqb session pass.session) (is_callable pass) (sym (ap (λ (a : Bool). a && eqb session pass.session && is_callable pass) (ne_eqb desk pass.out apart)) ∙ may)
+    ]
+  where
+    refused : (a c : Bool) → (a && false && c) ≡ true → {P : Type 0} → P
+    refused true c is = absurd (cc is)
+    refused false c is = absurd (cc is)
+
+    none : (b c : Bool) → (false && b && c) ≡ true → {P : Type 0} → P
+    none b c is = absurd (cc is)
+
+-- What the code of a call has done: it has called the desk that is out with the stamp of the session's next entry.
+pub record Calls (pass : PassState) (me : Caller) (after : Contents → Stamp → Contents) (held new : Contents) (used : Stamp) : Type 0 where
+  pub held_is : pass.desk ≡ Some held
+  pub actor_is : used.actor ≡ me.actor
+  pub seq_is : used.seq ≡ length pass.mine + 1
+  pub turn_is : used.turn ≡ me.turn
+  pub new_is : new ≡ after held used
+  pub sound : IsSound new
+
+module _ (pass : PassState) (out : IsOut pass) (desk : ℕ) (me : Caller) (may : (world_of pass).may_call desk me.actor ≡ true) where
+  abbrev at : Contents
+  at = (world_of pass).contents desk
+
+  abbrev stamp : Stamp
+  stamp = next_stamp (world_of pass) me
+
+  allowed : IsAllowed pass desk me.actor
+  allowed = allowed-is pass desk me.actor may
+
+  at_is : at ≡ met_at pass pass.out
+  at_is = ap (known_desk pass) allowed.desk_is ∙ known_is pass out allowed.fresh
+
+  module _ (after : Contents → Stamp → Contents) (held new : Contents) (used : Stamp) (calls : Calls pass me after held new used) where
+    -- The code has called the desk with the stamp of which the contract speaks.
+    pub held_is_at : held ≡ at
+    held_is_at =
+        ap (λ (desk : Option Contents). unwrap_or desk no_desk) (sym calls.held_is) ∙ out.uncalled allowed.fresh ∙ sym at_is
+
+    pub used_is : used ≡ stamp
+    used_is = λ k. record {
+      actor = calls.actor_is k;
+      seq = (calls.seq_is ∙ ap (λ (list : List Entry). length list + 1) (sym (ap (world_of pass).mine allowed.session_is ∙ mine_is pass out allowed.fresh))) k;
+      turn = calls.turn_is k;
+    }
+
+    new_is_left : new ≡ after at stamp
+    new_is_left = calls.new_is ∙ ap₂ after held_is_at used_is
+
+    -- So the call is one of the session, and the pass has the desk out as the call has left it.
+    module _ (entries : List Entry) (left : IsSound (after at stamp) → Leaves at (after at stamp) me.actor stamp.seq entries) where
+      leaves : Leaves (met_at pass pass.out) (after at stamp) pass.session (length pass.mine + 1) entries
+      leaves =
+          subst (λ (found : Contents). Leaves found (after at stamp) pass.session (length pass.mine + 1) entries) at_is
+          (subst₂ (λ (session number : ℕ). Leaves at (after at stamp) session number entries) allowed.session_is
+          (sym (ap (λ (s : Stamp). s.seq) used_is) ∙ calls.seq_is) (left (subst IsSound new_is_left calls.sound)))
+
+      abbrev next : PassState
+      next = record pass { desk = Some new; called = true }
+
+      next_is : (record pass { desk = Some (after at stamp); called = true }) ≡ next
+      next_is = ap (λ (d : Contents). let p : PassState = record pass { desk = Some d; called = true } in p) (sym new_is_left)
+
+      pub IsCall-called : IsCall (world_of pass) (world_of next) desk me.actor entries (after at stamp)
+      IsCall-called =
+          subst₂ (λ (d s : ℕ). IsCall (world_of pass) (world_of next) d s entries (after at stamp)) (sym allowed.desk_is) (sym allowed.session_is)
+          (subst (λ (p : PassState). IsCall (world_of pass) (world_of p) pass.out pass.session entries (after at stamp)) next_is
+          (IsCall-out pass out allowed.fresh (after at stamp) entries leaves))
+
+      pub IsOut-next : IsOut next
+      IsOut-next = subst IsOut next_is (IsOut-called pass out allowed.fresh (after at stamp) entries leaves)

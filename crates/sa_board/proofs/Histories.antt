@@ -1,5 +1,5 @@
 -- No history is long.
-use Rattle.std.proofs.Common.{ℕ, ◌≤◌, ◌+◌, length, sum, arith}
+use Rattle.std.proofs.Common.{◌≤◌, length, sum, arith}
 use Rattle.sa_desk.specs.Contents.{Contents, IsSound}
 use Rattle.sa_desk.proofs.Capacity.{sound_fits}
 

@@ -1,5 +1,5 @@
 pub mod Calls
-pub mod Ending
+pub mod Finishing
 pub mod Histories
 pub mod Lists
 pub mod Locks

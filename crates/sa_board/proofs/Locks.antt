@@ -1,17 +1,15 @@
 -- What the table has of each desk, and which session each seat stands for, as one seat's view and one word change.
-use Rattle.std.proofs.Common.{◌≡◌, ◌≢◌, ℕ, ◌+◌, ◌<◌, ◌≤◌, ◌⊎◌, eqb, ne_eqb, eq-eqb, cond, ◌&&◌, true, false, Bool, Option, List, [], ◌∷◌, length, get_or, set, map, sum_by, All, inl, inr, ⊎_elim, refl, sym, ap, subst, ◌∙◌, arith, get_or-set_other}
-use Rattle.std.specs.List.{count_by}
+use Rattle.std.proofs.Common.{◌≡◌, ◌≢◌, ℕ, ◌+◌, ◌<◌, ◌≤◌, eqb, ne_eqb, eq-eqb, cond, ◌&&◌, List, [], ◌∷◌, length, get_or, set, sum_by, refl, ap, ◌∙◌, arith, get_or-set_other}
 use Rattle.std.specs.Prelude.{nat_lt}
 use mathlib.Core.Option.{some}
 use lib.ListN.{get_elem?}
 use Rattle.std.proofs.lemmas.Bool.Decides.{nat_tests}
 use Rattle.std.proofs.lemmas.List.Sums.{sum_by-cons, get_or-le-sum_by}
-use Rattle.atomic_table.specs.Table.{State}
 use Rattle.sa_desk.specs.Contents.{Contents}
 use Rattle.sa_board.specs.declared.view.Known.{Known}
 use Rattle.sa_board.specs.declared.view.View.{View}
-use Rattle.sa_board.specs.View.{desk_in, has_out, holders, stands_for, standing, is_given}
-use Rattle.sa_board.specs.Rule.{Table, Lock, lock_at, IsLock, IsSeat, IsKept}
+use Rattle.sa_board.specs.View.{has_out, holders, stands_for, standing, is_given}
+use Rattle.sa_board.specs.Rule.{Table, Lock, lock_at, IsKept}
 use Rattle.sa_board.proofs.Lists.{sum-set, part_le, parts_le, bit_le}
 
 -- A lock is what its parts are.

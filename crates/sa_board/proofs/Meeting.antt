@@ -1,19 +1,19 @@
 -- What a session has met at the desks, as they go on.
-use Rattle.std.proofs.Common.{◌≡◌, ◌≢◌, ℕ, ◌+◌, ◌*◌, ◌<◌, ◌≤◌, eqb, ne_eqb, eq-eqb, true, false, List, [], ◌∷◌, ◌++◌, length, map, drop, set, filter, All, Bool, sum_by, refl, sym, ap, ap₂, subst, subst₂, ◌∙◌, arith, append-nil, append_assoc, length-append, length-set, get_or-set_same, get_or-set_other}
-use Rattle.std.specs.List.{range_with_len, count_by}
+use Rattle.std.proofs.Common.{◌≡◌, ◌≢◌, ℕ, ◌+◌, ◌<◌, ◌≤◌, eqb, ne_eqb, eq-eqb, true, false, List, [], ◌∷◌, ◌++◌, length, drop, set, All, sum_by, refl, sym, ap, ap₂, subst, subst₂, ◌∙◌, arith, append-nil, append_assoc, length-append, length-set, get_or-set_same, get_or-set_other}
+use Rattle.std.specs.List.{count_by}
 use Rattle.std.proofs.Math.Seq.{drop-append_seam}
 use Rattle.std.proofs.lemmas.List.Elements.{All-append, All-weaker, filter-append}
 use Rattle.std.proofs.lemmas.List.Sums.{sum_by-cons, length-filter, count_by-le-length}
 use Rattle.sa_desk.specs.declared.entry.Entry.{Entry}
 use Rattle.sa_desk.specs.Contents.{Contents}
 use Rattle.sa_desk.specs.New.{no_desk}
-use Rattle.sa_desk.specs.World.{Leaves, quiet_of, made_by, standing_on}
-use Rattle.sa_desk.proofs.Numbered.{AreNumbered, AreNumbered-append, filter-nothing, filter-everything}
-use Rattle.sa_desk.proofs.Sums.{sum_below, sum_below-le, sum_below-constant, sum_by-parts, part, Within}
+use Rattle.sa_desk.specs.World.{Leaves, made_by, standing_on}
+use Rattle.sa_desk.proofs.Numbered.{AreNumbered-append, filter-nothing, filter-everything}
+use Rattle.sa_desk.proofs.Sums.{sum_below-le, sum_below-constant, sum_by-parts, part, Within}
 use Rattle.sa_board.specs.declared.view.Known.{Known}
 use Rattle.sa_board.specs.View.{desk_in}
 use Rattle.sa_board.specs.Rule.{Fits, StandsThere, IsKnown}
-use Rattle.sa_board.specs.Steps.{meets, adds}
+use Rattle.sa_board.specs.Steps.{meets}
 use Rattle.sa_board.proofs.Lists.{at_or_else}
 
 -- What the desk holds now fits itself.

@@ -1,15 +1,10 @@
 -- The first seat gives the other sessions their numbers.
-use Rattle.std.proofs.Common.{◌≡◌, ℕ, suc, ◌+◌, ◌-◌, ◌<◌, ◌≤◌, List, [], ◌∷◌, ◌++◌, length, map, get_or, refl, sym, ap, subst, ◌∙◌, arith}
-use Rattle.std.specs.List.{range_with_len}
-use Rattle.std.proofs.lemmas.List.FromFn.{map-range_with_len_more}
+use Rattle.std.proofs.Common.{◌≡◌, ℕ, ◌+◌, ◌<◌, ◌≤◌, List, [], ◌∷◌, length, refl, sym, ap, subst, ◌∙◌}
 use Rattle.sa_desk.specs.Contents.{Contents}
-use Rattle.sa_board.specs.declared.view.Known.{Known}
 use Rattle.sa_board.specs.declared.view.View.{View}
-use Rattle.sa_board.specs.View.{newcomer, first_view}
+use Rattle.sa_board.specs.View.{newcomer}
 use Rattle.sa_board.specs.Steps.{Sitter, IsFounder, founder_left, founder_right}
-use Rattle.sa_board.specs.Board.{BoardState, new_pass}
-use Rattle.sa_board.specs.Pass.{PassState}
-use Rattle.sa_board.specs.inner.Pass.{nobody_known, one_of}
+use Rattle.sa_board.specs.inner.Pass.{one_of}
 
 -- the first seat, when so many numbers were given
 abbrev pub first_seat : List Contents → ℕ → Sitter

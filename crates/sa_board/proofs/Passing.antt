@@ -1,20 +1,18 @@
 -- A pass takes a desk out and brings it home.
-use Rattle.std.proofs.Common.{◌≡◌, ◌≢◌, ℕ, zero, suc, ◌+◌, ◌-◌, ◌*◌, ◌^◌, ◌<◌, ◌≤◌, false, Bool, Option, Some, None, List, [], ◌∷◌, ◌++◌, length, drop, get_or, set, map, All, unwrap_or, refl, sym, ap, ap₂, subst, subst₂, ◌∙◌, arith, append-nil, length-append, length-set, get_or-set_same}
+use Rattle.std.proofs.Common.{◌≡◌, ℕ, suc, ◌+◌, ◌-◌, ◌*◌, ◌^◌, ◌<◌, ◌≤◌, false, Option, Some, None, List, [], ◌∷◌, ◌++◌, length, drop, get_or, set, map, unwrap_or, refl, sym, ap, ap₂, subst, subst₂, ◌∙◌, arith, append-nil, length-append, length-set, get_or-set_same}
 use Rattle.std.proofs.Math.Seq.{drop-length}
 use Rattle.std.proofs.lemmas.List.Elements.{All-nil}
-use Rattle.atomic_table.specs.Seated.{TableId}
 use Rattle.sa_desk.specs.declared.entry.Entry.{Entry}
-use Rattle.sa_desk.specs.State.{Terms}
 use Rattle.sa_desk.specs.Contents.{Contents, IsSound}
 use Rattle.sa_desk.specs.New.{no_desk}
-use Rattle.sa_desk.specs.World.{made_by, standing_on, Leaves}
+use Rattle.sa_desk.specs.World.{made_by, Leaves}
 use Rattle.sa_board.specs.declared.view.Known.{Known}
 use Rattle.sa_board.specs.declared.view.View.{View}
 use Rattle.sa_board.specs.declared.pass.Pass.TheInside.{Inside}
 use Rattle.sa_board.specs.View.{desk_in}
 use Rattle.sa_board.specs.Rule.{Fits}
 use Rattle.sa_board.specs.Steps.{Sitter, IsIdle, Took, took, meets, adds, raised, released, Raises, Returns}
-use Rattle.sa_board.specs.Pass.{PassState, met_at, out_desk, new_entries, IsOut, HasTaken, at_home}
+use Rattle.sa_board.specs.Pass.{PassState, known_of, met_at, out_desk, new_entries, IsOut, HasTaken, at_home}
 use Rattle.sa_board.specs.inner.Pass.{nobody_known, one_of, state_of, away_with, IsPass}
 use Rattle.sa_board.proofs.Histories.{history-few}
 use Rattle.sa_board.proofs.Lists.{alone_is}
@@ -27,6 +25,13 @@ IsIdle-pass pass is none = record {
   one = one_of pass.seat.me.0;
   alone = is.alone;
 }
+
+-- Its seat stands for its session alone.
+pub known-pass : (pass : Inside) → IsPass pass → pass.seat.me.0.known ≡ known_of (state_of pass) ∷ []
+known-pass pass is =
+    let one = one_of pass.seat.me.0 in
+    let same : one ≡ known_of (state_of pass) = λ k. record { session = is.session k; met = one.met; mine = one.mine } in
+    is.alone ∙ ap (λ (known : Known). known ∷ []) same
 
 -- A desk fits itself, with no new entries.
 leaves-same : (desk : Contents) (session number : ℕ) → IsSound desk → Leaves desk desk session number []

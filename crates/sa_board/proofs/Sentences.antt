@@ -1,14 +1,11 @@
 -- The eleven sentences follow from the rule.
-use Rattle.std.proofs.Common.{◌≡◌, ℕ, ◌+◌, ◌<◌, ◌≤◌, List, length, All, get_or, sym, ap, ◌∙◌, arith}
-use mathlib.Core.Option.{some}
-use lib.ListN.{get_elem?}
+use Rattle.std.proofs.Common.{◌≡◌, ℕ, ◌+◌, ◌<◌, ◌≤◌, List, length, sym, ap, ◌∙◌, arith}
 use Rattle.std.proofs.lemmas.List.Elements.{All-weaker}
 use Rattle.std.proofs.lemmas.Bool.Decides.{nat_tests}
 use Rattle.sa_desk.specs.State.{Terms}
 use Rattle.sa_desk.specs.Contents.{Contents}
 use Rattle.sa_board.proofs.Histories.{history-short}
 use Rattle.sa_board.specs.declared.view.Known.{Known}
-use Rattle.sa_board.specs.declared.view.View.{View}
 use Rattle.sa_board.specs.View.{desk_in, is_given}
 use Rattle.sa_board.specs.Rule.{Table, Fits, IsKnown, IsKept}
 use Rattle.sa_board.specs.Sentences.{EachSession, EachMeeting, SameTerms, Sentences}

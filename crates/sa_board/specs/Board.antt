@@ -1,5 +1,5 @@
 -- What a board is, and the passes that come with a new one; cited by the calls of the board.
-use Rattle.std.specs.Prelude.{ℕ, ◌+◌, List, [], length, map, None, false}
+use Rattle.std.specs.Prelude.{◌≡◌, ℕ, List, [], length, map, None, false, All}
 use Rattle.std.specs.List.{range_with_len}
 use Rattle.atomic_table.specs.Seated.{TableId}
 use Rattle.sa_desk.specs.Contents.{Contents}
@@ -26,3 +26,9 @@ new_pass board session = record {
 -- a pass for each session, in their order
 abbrev pub new_passes : BoardState → List PassState
 new_passes board = map (new_pass board) (range_with_len 1 (length board.founded))
+
+-- These are all the passes of a board, in the order of their sessions, and none has a desk out.
+pub record AreAll (board : BoardState) (passes : List PassState) : Type 0 where
+  pub sessions : map (λ pass. pass.session) passes ≡ range_with_len 1 (length board.founded)
+  pub tables : All (λ pass. pass.table ≡ board.table) passes
+  pub idle : All (λ pass. pass.out ≡ 0) passes

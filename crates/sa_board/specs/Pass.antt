@@ -1,10 +1,11 @@
--- What a session's pass to a board is, and what is known of the desk that it has out; cited by the calls of the board.
-use Rattle.std.specs.Prelude.{◌≡◌, ℕ, ◌+◌, ◌-◌, ◌*◌, ◌^◌, ◌≤◌, ◌==◌, ◌&&◌, not, Bool, false, List, [], ◌++◌, length, drop, slice_set, Option, Some, None, unwrap_or, if◌then◌else◌}
+-- What a session's pass to a board is; cited by the calls of the board.
+use Rattle.std.specs.Prelude.{◌≡◌, ℕ, ◌+◌, ◌-◌, ◌*◌, ◌^◌, ◌≤◌, ◌==◌, ◌&&◌, not, nat_lt, Bool, false, List, [], ◌++◌, length, drop, slice_set, Option, Some, None, unwrap_or, if◌then◌else◌}
 use Rattle.atomic_table.specs.Seated.{TableId}
 use Rattle.sa_desk.specs.declared.entry.Entry.{Entry}
 use Rattle.sa_desk.specs.Contents.{Contents, IsSound}
 use Rattle.sa_desk.specs.New.{no_desk}
 use Rattle.sa_desk.specs.World.{World, quiet_of, no_quiet, made_by, standing_on, Leaves}
+use Rattle.sa_board.specs.declared.view.Known.{Known}
 use Rattle.sa_board.specs.View.{desk_in}
 use Rattle.sa_board.specs.Rule.{Fits}
 
@@ -20,6 +21,10 @@ pub record PassState : Type 0 where
   pub out : ℕ
   pub desk : Option Contents
   pub called : Bool
+
+-- what the seat of the pass knows of its session
+abbrev pub known_of : PassState → Known
+known_of pass = record { session = pass.session; met = pass.met; mine = pass.mine }
 
 -- what the session has met at the desk with this number
 abbrev pub met_at : PassState → ℕ → Contents
@@ -37,11 +42,15 @@ new_entries pass = drop (length (met_at pass pass.out).journal) (out_desk pass).
 abbrev pub known_desk : PassState → ℕ → Contents
 known_desk pass desk = if desk == pass.out then out_desk pass else met_at pass desk
 
+-- A desk is out, and wasn't called.
+abbrev pub is_callable : PassState → Bool
+is_callable pass = nat_lt 0 pass.out && not pass.called
+
 -- The desk that is out may be called once, for the session of the pass alone. Whatever is not the
 -- session's is not known.
 abbrev pub world_of : PassState → World
 world_of pass = record {
-  may_call = λ desk session. desk == pass.out && session == pass.session && not pass.called;
+  may_call = λ desk session. desk == pass.out && session == pass.session && is_callable pass;
   contents = known_desk pass;
   mine = λ session. if session == pass.session then pass.mine ++ new_entries pass else [];
   seen = λ session desk. if session == pass.session then (known_desk pass desk).journal else [];

@@ -1,4 +1,4 @@
--- The rule of a board's table: what is true of its words, slots and seats between any two steps; cited by the table and by the laws of the board.
+-- The rule of a board's table, true between any two steps; cited by the table and by its law.
 use Rattle.std.specs.Prelude.{◌≡◌, ◌≢◌, ℕ, ◌+◌, ◌<◌, ◌≤◌, List, [], ◌∷◌, length, map, slice_index, Option, Some, All}
 use Rattle.std.specs.List.{range_with_len}
 use mathlib.Core.Option.{some}
@@ -12,9 +12,9 @@ use Rattle.sa_board.specs.declared.view.Known.{Known}
 use Rattle.sa_board.specs.declared.view.View.{View}
 use Rattle.sa_board.specs.View.{desk_in, holders, standing, is_given}
 
--- The desk with number d stands at the index d - 1. Its turn word is the word at this index, and its
--- length word the one as many words later as there are desks. Its slot is the slot at this index. A
--- desk is at home where no seat has taken it out of its slot.
+-- The desk with number d stands at the index d - 1. Its turn word is the word at this index, and
+-- its length word the one as many words later as there are desks. Its slot is the slot at this
+-- index. A desk is at home where no seat has taken it out of its slot.
 abbrev pub Table : Type 0
 Table = State (Option Contents) View
 
@@ -110,7 +110,8 @@ pub record IsKept (founded : List Contents) (table : Table) : Type 0 where
   pub words : length table.words ≡ length founded + length founded
   pub given : made ≤ length founded
   pub locks : (index : ℕ) → index < length founded
-      → IsLock (desk_in founded index) (desk_in now index) index (lock_at (length founded) table index)
+      → IsLock (desk_in founded index) (desk_in now index) index
+      (lock_at (length founded) table index)
   pub seats : (seat : ℕ) (view : View) → get_elem? table.views seat ≡ some view
       → IsSeat now giver made seat view
   -- 8: each number that was given is that of one session, which one seat stands for

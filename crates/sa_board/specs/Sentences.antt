@@ -12,7 +12,8 @@ use Rattle.sa_board.specs.Rule.{Table, IsHolder, IsUnborn}
 
 -- It is true of each session, running or ended.
 abbrev pub EachSession : Table → (Known → Type 0) → Type 0
-EachSession table P = (seat : ℕ) (view : View) → get_elem? table.views seat ≡ some view → All P view.known
+EachSession table P =
+    (seat : ℕ) (view : View) → get_elem? table.views seat ≡ some view → All P view.known
 
 -- It is true of each session and each desk, at the desk's index.
 abbrev pub EachMeeting : List Contents → Table → (Known → ℕ → Type 0) → Type 0
@@ -64,7 +65,7 @@ pub record Sentences (founded : List Contents) (table : Table) : Type 0 where
   -- A number above those has no entry in a history, and nothing is counted for it.
   pub unborn : (session index : ℕ) → made < session → index < length founded
       → IsUnborn session (desk_in now index)
-  -- In each history an actor's charge is at most its share, so no history is longer than all shares.
+  -- In each history an actor's charge is at most its share. So none is longer than all shares.
   pub charges : (index : ℕ) → index < length founded
       → IsWithinShares (desk_in now index).shares (desk_in now index).journal
   pub short : (index : ℕ) → index < length founded

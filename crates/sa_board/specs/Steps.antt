@@ -1,4 +1,4 @@
--- What each kind of step on a board's table leaves, and what it asks and tells; cited by the plays of the table.
+-- What each kind of step on a board's table asks, leaves and tells; cited by the table's plays.
 use Rattle.std.specs.Prelude.{◌≡◌, ◌≢◌, ℕ, ◌+◌, ◌-◌, ◌<◌, ◌≤◌, ◌*◌, ◌^◌, List, [], ◌∷◌, ◌++◌, map, drop, length, slice_set, max, Some, None, Option, All}
 use mathlib.Core.Option.{some}
 use lib.ListN.{get_elem?}
@@ -117,14 +117,18 @@ pub record IsFounder (founded : List Contents) (view : View) : Type 0 where
 
 -- 8: one seat stands for the sessions of both, and the other for none
 abbrev pub joined : View → View → View
-joined view other = record view { known = view.known ++ other.known; made = max view.made other.made }
+joined view other = record view {
+  known = view.known ++ other.known;
+  made = max view.made other.made;
+}
 
 abbrev pub nobody : View
 nobody = record { known = []; made = 0; out = 0 }
 
--- All sessions have ended in one seat, and the slots have this: each desk is at home, and each session
--- is known.
-pub record IsEnded (founded : List Contents) (view : View) (homes : List (Option Contents)) : Type 0 where
+-- All sessions have ended in one seat, and the slots have this: each desk is at home, and each
+-- session is known.
+pub record IsEnded (founded : List Contents) (view : View)
+    (homes : List (Option Contents)) : Type 0 where
   pub now : List Contents
   pub desks : length now ≡ length founded
   pub slots : length homes ≡ length founded

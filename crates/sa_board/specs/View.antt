@@ -13,7 +13,7 @@ desk_in desks index = slice_index_or desks index no_desk
 abbrev pub newcomer : ℕ → List Contents → Known
 newcomer session desks = record { session = session; met = desks; mine = [] }
 
--- the view of the first seat: session 1 has met the desks as they were founded, and one number is given
+-- the view of the first seat: session 1 has met the desks as they were founded
 abbrev pub first_view : List Contents → View
 first_view founded = record { known = newcomer 1 founded ∷ []; made = 1; out = 0 }
 

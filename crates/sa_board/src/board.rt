@@ -4,7 +4,7 @@ ghost use Rattle.sa_board.specs.Steps.{IsIdle, Took, HasDesk, Raises, raised, Re
 use crate::plays::{Left, Order, Raise, Release, Take};
 use crate::view::View;
 use atomic_table::{Seat, Table};
-use sa_desk::Desk;
+use sa_desk::{Desk, Entries};
 use std::alloc::Global;
 use std::marker::{Brand, Model};
 use std::snapshot::Snapshot;
@@ -14,12 +14,15 @@ use std::thread::yield_now;
 /// A session's seat at the table.
 pub(crate) type Place = Seat<Option<Desk>, View>;
 
-/// The desks of all sessions, each under a lock of its own. Contracts see with which desks it was founded.
+/// The desks of all sessions, each under a lock of its own. Contracts see with which desks it was
+/// founded.
 #[derive(Drop)]
 pub struct Board {
     pub(crate) table: Table<Option<Desk>, View, Snapshot<Vec<Desk>>, Order, Global>,
     /// How many desks there are.
     pub(crate) desks: usize,
+    /// Room for the journals.
+    pub(crate) journals: Vec<Entries>,
 }
 
 impl Model for Board {

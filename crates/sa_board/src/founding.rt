@@ -18,8 +18,9 @@ use std::alloc::Global;
 use std::snapshot::Snapshot;
 
 impl Board {
-    /// A board of new desks, numbered 1, 2 and so on, each with as many shares as there are desks, and a
-    /// pass for each of their sessions, in their order.
+    /// A board of new desks, numbered 1, 2 and so on, each with as many shares as there are desks,
+    /// and a pass for each of their sessions, in their order. It reserves the list of journals that
+    /// `finish` gives.
     pub fn new(alloc: Global, desks: Vec<Desk>) -> Result<(Board, Vec<Pass>), OutOfMemory>
         requires new { AreNew desks.items }
         requires least { 1 ≤ length desks.items }
@@ -43,6 +44,7 @@ fn found(alloc: Global, desks: Vec<Desk>) -> Result<(Board, Place), OutOfMemory>
 {
     let count = desks.len();
     let founded = Snapshot::of(&desks);
+    let journals = Vec::with_capacity(alloc, count)?;
     let slots = in_slots(alloc, desks)?;
     let words = zeros(count + count);
     let made = Table::<Option<Desk>, View, Snapshot<Vec<Desk>>, Order, Global>::new(
@@ -56,6 +58,7 @@ fn found(alloc: Global, desks: Vec<Desk>) -> Result<(Board, Place), OutOfMemory>
             Board {
                 table,
                 desks: count,
+                journals,
             },
             first,
         )),

@@ -6,8 +6,8 @@ use crate::board::Board;
 use crate::pass::Pass;
 use std::sync::Wait;
 
-/// A desk that a session has out, for one call. No other session has it meanwhile, so it must be brought
-/// home.
+/// A desk that a session has out, for one call. No other session has it meanwhile, so it must be
+/// brought home.
 pub struct Held<'a, 'p> {
     pass: &'p mut Pass,
     board: &'a Board,
@@ -16,7 +16,7 @@ pub struct Held<'a, 'p> {
 }
 
 impl Board {
-    /// Takes a desk out for the session of a pass, and waits for as long as another session has it out.
+    /// Takes a desk out for the session of a pass, and waits for as long as another session has it.
     pub fn hold<'b, 'p, R: Wait>(&'b self, rt: &R, pass: &'p mut Pass, desk: u32) -> Held<'b, 'p>
         requires board { pass.old.table ≡ self.now.table }
         requires idle { pass.old.out ≡ 0 }

@@ -1,5 +1,5 @@
-//! What is true of every table of a board. The law is a function that does nothing: its contract states
-//! the law, which its proof shows once and for all.
+//! What is true of every table of a board. The law is a function that does nothing: its contract
+//! states the law, which its proof shows once and for all.
 
 ghost use Rattle.std.specs.Prelude.{List};
 ghost use Rattle.sa_desk.specs.Contents.{Contents};

@@ -1,10 +1,11 @@
 //! One lock for each desk, so that sessions on several threads call each other's desks.
 //!
-//! A board keeps its desks in a table of words and slots. Whoever holds a desk has taken it out of its
-//! slot; what all sessions have done to a desk is one history.
+//! A board keeps its desks in a table of words and slots. Whoever holds a desk has taken it out of
+//! its slot. What all sessions have done to a desk is one history.
 #![tactic(auto)]
 
 mod board;
+mod ending;
 mod founding;
 mod held;
 mod law;

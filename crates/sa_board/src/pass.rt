@@ -1,15 +1,15 @@
 ghost use Rattle.std.specs.Prelude.{◌≡◌, ◌≤◌, [], ◌∷◌, None, false, length};
 ghost use Rattle.sa_board.specs.View.{newcomer};
 ghost use Rattle.sa_board.specs.inner.Pass.{one_of};
-ghost use Rattle.sa_board.specs.Pass.{IsOut, HasTaken, at_home};
+ghost use Rattle.sa_board.specs.Pass.{IsOut, HasTaken, at_home, known_of};
 
 use crate::board::{Board, Place, acquire, bring_home, bring_out, raise, release};
 use sa_desk::Desk;
 use std::marker::Model;
 use std::sync::Wait;
 
-/// A session's right to the desks of its board. Contracts see what the session has met at each desk and
-/// which entries it has made.
+/// A session's right to the desks of its board. Contracts see what the session has met at each desk
+/// and which entries it has made.
 #[derive(Drop)]
 pub struct Pass {
     session: u32,
@@ -69,6 +69,18 @@ impl Pass {
             found: 0,
             called: false,
         }
+    }
+
+    /// The seat, of which the session's end is made.
+    pub(crate) fn into_seat(self) -> Place
+        requires { self.out ≡ 0 }
+        ensures table { result.table_id ≡ self.table }
+        ensures away { result.me.1 ≡ [] }
+        ensures out { result.me.0.out ≡ 0 }
+        ensures known { result.me.0.known ≡ known_of self ∷ [] }
+    {
+        let Pass { seat, .. } = self;
+        seat
     }
 
     /// Takes a desk out, and waits for as long as another session has it out.

@@ -1,20 +1,20 @@
 -- What a table holds once all its sessions have ended in one seat: each desk is at home.
-use Rattle.std.proofs.Common.{◌≡◌, ◌≢◌, ℕ, zero, suc, ◌+◌, ◌-◌, ◌<◌, ◌≤◌, eqb, eqb-true, cond, Bool, true, false, inl, inr, Option, Some, List, [], ◌∷◌, length, get_or, map, All, refl, sym, ap, subst, ◌∙◌, arith}
+use Rattle.std.proofs.Common.{◌≡◌, ℕ, zero, suc, ◌+◌, ◌-◌, ◌<◌, ◌≤◌, eqb-true, cond, Bool, true, inl, inr, Option, Some, List, [], ◌∷◌, length, get_or, map, refl, sym, ap, subst, ◌∙◌, arith}
 use Rattle.std.specs.List.{range_with_len, count_by}
 use mathlib.Core.Logic.{dite}
 use native.Mathlib.Decide.{ℕ_discrete}
-use mathlib.Core.Option.{some, some-injective, some-ne-none}
+use mathlib.Core.Option.{some, some-injective}
 use lib.ListN.{get_elem?}
 use Rattle.std.proofs.lemmas.Bool.{cases_Bool}
 use Rattle.std.proofs.lemmas.List.{length-map}
 use Rattle.std.proofs.lemmas.List.FromFn.{length-range_with_len, get_or-range_with_len}
 use Rattle.std.proofs.lemmas.List.Sums.{sum_by-cons}
-use Rattle.atomic_table.specs.Table.{State, Final, Seen}
-use Rattle.sa_desk.specs.Contents.{Contents, IsSound}
+use Rattle.atomic_table.specs.Table.{Final, Seen}
+use Rattle.sa_desk.specs.Contents.{Contents}
 use Rattle.sa_board.specs.declared.view.Known.{Known}
 use Rattle.sa_board.specs.declared.view.View.{View}
-use Rattle.sa_board.specs.View.{desk_in, has_out, holders}
-use Rattle.sa_board.specs.Rule.{Table, IsLock, IsKnown, IsKept}
+use Rattle.sa_board.specs.View.{desk_in, has_out}
+use Rattle.sa_board.specs.Rule.{Table, IsKept}
 use Rattle.sa_board.specs.Steps.{IsEnded}
 use Rattle.sa_board.proofs.Locks.{known-given, known-apart}
 

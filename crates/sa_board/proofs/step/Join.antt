@@ -1,5 +1,5 @@
 -- A session's end in another's seat keeps the rule: one seat stands for the sessions of both, and the other for none.
-use Rattle.std.proofs.Common.{◌≡◌, ◌≢◌, ℕ, ◌+◌, ◌<◌, ◌≤◌, eqb, cond, max, Option, List, [], ◌∷◌, ◌++◌, length, set, map, All, ⊎_elim, refl, sym, ap, subst, ◌∙◌, arith}
+use Rattle.std.proofs.Common.{◌≡◌, ◌≢◌, ℕ, ◌+◌, ◌<◌, eqb, cond, List, length, set, ⊎_elim, refl, sym, subst, ◌∙◌, arith}
 use mathlib.Core.Logic.{dite}
 use native.Mathlib.Decide.{ℕ_discrete}
 use mathlib.Core.Option.{some}
@@ -14,7 +14,7 @@ use Rattle.sa_board.specs.View.{desk_in, holders, stands_for, standing}
 use Rattle.sa_board.specs.Rule.{Table, lock_at, IsLock, IsKnown, IsSeat, IsKept}
 use Rattle.sa_board.specs.Steps.{joined, nobody}
 use Rattle.sa_board.proofs.Lists.{at_set, set_else, sum-set}
-use Rattle.sa_board.proofs.Locks.{lock_is, out_bit, out_bit-no, holders-same}
+use Rattle.sa_board.proofs.Locks.{lock_is, out_bit-no, holders-same}
 
 -- Which seat gives numbers then, and what the two views have of them.
 record Gives (table : Table) (made id other : ℕ) (both : View) : Type 0 where

@@ -1,18 +1,18 @@
 -- A raise of a desk's length word keeps the rule: the desk holds what the call has left, and its session has made the new entries.
-use Rattle.std.proofs.Common.{◌≡◌, ◌≢◌, ℕ, ◌+◌, ◌-◌, ◌%◌, ◌^◌, ◌<◌, ◌≤◌, eqb, cond, Option, Some, None, List, [], ◌∷◌, ◌++◌, length, get_or, set, map, All, drop, ⊎_elim, refl, sym, ap, subst, subst₂, ◌∙◌, arith, length-set, length-append, get_or-set_same, get_or-set_other, mod-eq_of_lt}
+use Rattle.std.proofs.Common.{◌≡◌, ◌≢◌, ℕ, ◌+◌, ◌-◌, ◌%◌, ◌^◌, ◌<◌, ◌≤◌, List, [], ◌∷◌, ◌++◌, length, get_or, set, map, All, drop, ⊎_elim, refl, sym, ap, subst, subst₂, ◌∙◌, arith, length-set, length-append, get_or-set_same, get_or-set_other, mod-eq_of_lt}
 use mathlib.Core.Option.{some, none}
 use lib.ListN.{get_elem?}
 use Rattle.std.proofs.lemmas.List.Elements.{All-nil, All-cons, All-head}
-use Rattle.atomic_table.specs.Table.{State, step, Act, keeps, Allows}
+use Rattle.atomic_table.specs.Table.{step, keeps, Allows}
 use Rattle.sa_desk.specs.declared.entry.Entry.{Entry}
 use Rattle.sa_desk.specs.State.{Terms}
 use Rattle.sa_desk.specs.Contents.{Contents}
 use Rattle.sa_desk.specs.New.{no_desk}
-use Rattle.sa_desk.specs.World.{Leaves, made_by, quiet_of}
+use Rattle.sa_desk.specs.World.{Leaves}
 use Rattle.sa_board.proofs.Histories.{history-few}
 use Rattle.sa_board.specs.declared.view.Known.{Known}
 use Rattle.sa_board.specs.declared.view.View.{View}
-use Rattle.sa_board.specs.View.{desk_in, has_out, stands_for, holders}
+use Rattle.sa_board.specs.View.{desk_in, holders}
 use Rattle.sa_board.specs.Rule.{Table, Lock, lock_at, IsLock, IsKnown, IsHolder, IsSeat, IsUnborn, IsKept}
 use Rattle.sa_board.specs.Steps.{Sitter, adds, raised, Raises, lifted}
 use Rattle.sa_board.proofs.Lists.{at_set, at_or_else, alone_is, part_le}

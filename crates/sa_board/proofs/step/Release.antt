@@ -1,13 +1,13 @@
 -- A desk that is let go keeps the rule: its slot has what the seat's session had met last, which is what the desk holds.
-use Rattle.std.proofs.Common.{◌≡◌, ◌≢◌, ℕ, ◌+◌, ◌<◌, ◌≤◌, Option, Some, List, [], ◌∷◌, length, get_or, set, map, All, ⊎_elim, refl, sym, ap, subst, ◌∙◌, arith, length-set, get_or-set_same, get_or-set_other}
+use Rattle.std.proofs.Common.{◌≡◌, ◌≢◌, ℕ, ◌+◌, ◌<◌, Option, Some, List, [], ◌∷◌, length, get_or, set, ⊎_elim, refl, sym, ap, subst, ◌∙◌, arith, length-set, get_or-set_same, get_or-set_other}
 use mathlib.Core.Option.{some, none}
 use lib.ListN.{get_elem?}
-use Rattle.atomic_table.specs.Table.{State, step, Act, gives, Allows}
+use Rattle.atomic_table.specs.Table.{step, gives, Allows}
 use Rattle.sa_desk.specs.Contents.{Contents}
 use Rattle.sa_board.specs.declared.view.Known.{Known}
 use Rattle.sa_board.specs.declared.view.View.{View}
-use Rattle.sa_board.specs.View.{desk_in, has_out, stands_for}
-use Rattle.sa_board.specs.Rule.{Table, lock_at, IsLock, IsKnown, IsHolder, IsSeat, IsKept}
+use Rattle.sa_board.specs.View.{desk_in}
+use Rattle.sa_board.specs.Rule.{Table, lock_at, IsLock, IsSeat, IsKept}
 use Rattle.sa_board.specs.Steps.{Sitter, released, Returns, given_back}
 use Rattle.sa_board.proofs.Lists.{at_set, set_here, set_else, at_or_else, alone_is}
 use Rattle.sa_board.proofs.Locks.{out_bit, out_bit-yes, out_bit-no, holders-set, holders-same, standing-same, lock-else}

@@ -1,5 +1,5 @@
 -- A new session's seat keeps the rule: its number wasn't given before, and has left no trace.
-use Rattle.std.proofs.Common.{◌≡◌, ◌≢◌, ℕ, ◌+◌, ◌<◌, ◌≤◌, eqb, cond, Option, List, [], ◌∷◌, ◌++◌, length, set, map, All, ⊎_elim, refl, sym, ap, subst, ◌∙◌, arith, length-set}
+use Rattle.std.proofs.Common.{◌≡◌, ◌≢◌, ℕ, ◌+◌, ◌<◌, eqb, cond, List, [], ◌∷◌, ◌++◌, length, set, map, All, ⊎_elim, refl, sym, ap, subst, ◌∙◌, arith, length-set}
 use mathlib.Core.Logic.{dite}
 use native.Mathlib.Decide.{ℕ_discrete}
 use mathlib.Core.Option.{some}

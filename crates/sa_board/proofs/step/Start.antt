@@ -1,5 +1,5 @@
 -- A new board keeps the rule: its words are 0, its slots have the desks that it was founded with, and its one seat stands for session 1.
-use Rattle.std.proofs.Common.{◌≡◌, ◌≢◌, ℕ, zero, suc, ◌+◌, ◌<◌, ◌≤◌, eqb, cond, Option, Some, List, [], ◌∷◌, length, replicate, get_or, map, All, refl, sym, ap, subst, ◌∙◌, arith}
+use Rattle.std.proofs.Common.{◌≡◌, ℕ, zero, suc, ◌+◌, ◌<◌, ◌≤◌, eqb, cond, Option, Some, List, [], ◌∷◌, length, replicate, get_or, map, refl, sym, ap, subst, ◌∙◌, arith}
 use mathlib.Core.Option.{some, some-injective, some-ne-none}
 use lib.ListN.{get_elem?}
 use Rattle.std.proofs.lemmas.Bool.Decides.{nat_tests}
@@ -10,7 +10,7 @@ use Rattle.atomic_table.specs.Table.{opening}
 use Rattle.sa_desk.specs.Contents.{Contents}
 use Rattle.sa_desk.specs.New.{no_desk, AreNew}
 use Rattle.sa_board.specs.declared.view.View.{View}
-use Rattle.sa_board.specs.View.{desk_in, newcomer, first_view, holders, stands_for, standing, is_given}
+use Rattle.sa_board.specs.View.{desk_in, newcomer, first_view, holders, stands_for, is_given}
 use Rattle.sa_board.specs.Rule.{Table, lock_at, IsLock, IsKnown, IsSeat, IsKept}
 use Rattle.sa_board.proofs.Locks.{out_bit, out_bit-no, stands_for-alone}
 use Rattle.sa_board.proofs.NewDesks.{slice_index_or-replicate, founded-journal, founded-number, founded-unborn, IsKnown-newcomer}

@@ -1,5 +1,5 @@
 -- A try to take a desk keeps the rule: where the turn word was 0 the seat has the desk, and where it was 1 nothing changes.
-use Rattle.std.proofs.Common.{◌≡◌, ◌≢◌, ℕ, ◌+◌, ◌*◌, ◌^◌, ◌<◌, ◌≤◌, eqb, ne_eqb, eq-eqb, cond, Option, Some, List, [], ◌∷◌, length, get_or, set, map, All, ⊎_elim, refl, sym, ap, subst, ◌∙◌, arith, length-set, get_or-set_same, get_or-set_other}
+use Rattle.std.proofs.Common.{◌≡◌, ◌≢◌, ℕ, ◌+◌, ◌<◌, eqb, ne_eqb, eq-eqb, Option, Some, List, [], ◌∷◌, length, get_or, set, map, All, ⊎_elim, refl, sym, ap, subst, ◌∙◌, arith, length-set, get_or-set_same, get_or-set_other}
 use mathlib.Core.Logic.{dite}
 use native.Mathlib.Decide.{ℕ_discrete}
 use mathlib.Core.Option.{some, none}
@@ -7,13 +7,12 @@ use lib.ListN.{get_elem?}
 use lib.Seq.{set-get_or}
 use prog.Atomic.{either}
 use Rattle.std.proofs.lemmas.List.Elements.{All-nil, All-cons, All-head}
-use Rattle.atomic_table.specs.Table.{State, step, Act, keeps, takes, Valid, carried_after, stepped, Allows}
+use Rattle.atomic_table.specs.Table.{step, Act, keeps, takes, Valid, carried_after, stepped, Allows}
 use Rattle.sa_desk.specs.Contents.{Contents}
 use Rattle.sa_desk.specs.New.{no_desk}
 use Rattle.sa_board.proofs.Histories.{history-few}
-use Rattle.sa_board.specs.declared.view.Known.{Known}
 use Rattle.sa_board.specs.declared.view.View.{View}
-use Rattle.sa_board.specs.View.{desk_in, has_out, stands_for}
+use Rattle.sa_board.specs.View.{desk_in}
 use Rattle.sa_board.specs.Rule.{Table, lock_at, IsLock, IsKnown, IsHolder, IsSeat, IsKept}
 use Rattle.sa_board.specs.Steps.{Sitter, IsIdle, meets, took, Took, taken}
 use Rattle.sa_board.proofs.Lists.{at_set, set_else, set_again, at_or_else}

@@ -1,4 +1,4 @@
-use Rattle.std.proofs.Common.{◌≡◌, ◌+◌, ◌<◌, length, ap, sym, subst, ◌∙◌, arith}
+use Rattle.std.proofs.Common.{◌+◌, length, ap, sym, subst, ◌∙◌, arith}
 use Rattle.sa_desk.specs.Contents.{Contents}
 use Rattle.sa_board.specs.Board.{BoardState}
 use Rattle.sa_board.specs.Steps.{Raises}

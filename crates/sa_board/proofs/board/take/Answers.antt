@@ -1,4 +1,4 @@
-use Rattle.std.proofs.Common.{◌≡◌, ◌<◌, length, ap, sym, ◌∙◌, arith}
+use Rattle.std.proofs.Common.{length, ap, sym, ◌∙◌, arith}
 use Rattle.sa_board.specs.Board.{BoardState}
 use Rattle.sa_board.proofs.step.Take.{takes_desk}
 use Rattle.sa_board.proofs.board.take.Goals as goal

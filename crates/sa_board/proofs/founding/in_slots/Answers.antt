@@ -1,5 +1,5 @@
-use Rattle.std.proofs.Common.{◌++◌, Some, Option, List, [], ◌∷◌, length, map, sym, ap, ◌∙◌, arith, append_assoc, append-nil, length-append}
-use Rattle.std.proofs.lemmas.List.{map-append, length-map, nil_from_length}
+use Rattle.std.proofs.Common.{◌++◌, Some, Option, List, [], ◌∷◌, length, sym, ap, ◌∙◌, arith, append_assoc, length-append}
+use Rattle.std.proofs.lemmas.List.{map-append, length-map}
 use Rattle.sa_desk.specs.Contents.{Contents}
 use Rattle.sa_board.proofs.founding.in_slots.Goals as goal
 

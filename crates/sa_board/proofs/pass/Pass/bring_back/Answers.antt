@@ -1,4 +1,4 @@
-use Rattle.std.proofs.Common.{◌≡◌, ℕ, ◌+◌, ◌-◌, ◌<◌, ◌≤◌, ◌^◌, rules, Some, [], ◌∷◌, sym, ap, subst, ◌∙◌, arith}
+use Rattle.std.proofs.Common.{ℕ, ◌+◌, ◌-◌, ◌<◌, ◌≤◌, ◌^◌, rules, Some, [], ◌∷◌, sym, ap, subst, ◌∙◌, arith}
 use Rattle.sa_board.specs.Steps.{Sitter}
 use Rattle.sa_board.specs.Pass.{PassState}
 use Rattle.sa_board.proofs.Passing.{Returns-pass, next-fits}
