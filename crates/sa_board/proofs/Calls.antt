@@ -29,28 +29,28 @@ called-once true false c is = absurd (cc is)
 called-once false b c is = absurd (cc is)
 
 module _ (pass : PassState) where
-  known-out : known_desk pass pass.out ≡ out_desk pass
+  pub known-out : known_desk pass pass.out ≡ out_desk pass
   known-out = chosen pass.out pass.out (out_desk pass) (met_at pass pass.out) refl
 
-  known-else : (desk : ℕ) → desk ≢ pass.out → known_desk pass desk ≡ met_at pass desk
+  pub known-else : (desk : ℕ) → desk ≢ pass.out → known_desk pass desk ≡ met_at pass desk
   known-else desk apart = other desk pass.out (out_desk pass) (met_at pass desk) apart
 
-  own-mine : (world_of pass).mine pass.session ≡ pass.mine ++ new_entries pass
+  pub own-mine : (world_of pass).mine pass.session ≡ pass.mine ++ new_entries pass
   own-mine = chosen pass.session pass.session (pass.mine ++ new_entries pass) [] refl
 
-  others-mine : (session : ℕ) → session ≢ pass.session → (world_of pass).mine session ≡ []
+  pub others-mine : (session : ℕ) → session ≢ pass.session → (world_of pass).mine session ≡ []
   others-mine session apart = other session pass.session (pass.mine ++ new_entries pass) [] apart
 
-  own-seen : (desk : ℕ) → (world_of pass).seen pass.session desk ≡ (known_desk pass desk).journal
+  pub own-seen : (desk : ℕ) → (world_of pass).seen pass.session desk ≡ (known_desk pass desk).journal
   own-seen desk = chosen pass.session pass.session (known_desk pass desk).journal [] refl
 
-  others-seen : (session desk : ℕ) → session ≢ pass.session → (world_of pass).seen session desk ≡ []
+  pub others-seen : (session desk : ℕ) → session ≢ pass.session → (world_of pass).seen session desk ≡ []
   others-seen session desk apart = other session pass.session (known_desk pass desk).journal [] apart
 
-  own-quiet : (desk : ℕ) → (world_of pass).quiet pass.session desk ≡ quiet_of (known_desk pass desk) pass.session
+  pub own-quiet : (desk : ℕ) → (world_of pass).quiet pass.session desk ≡ quiet_of (known_desk pass desk) pass.session
   own-quiet desk = chosen pass.session pass.session (quiet_of (known_desk pass desk) pass.session) no_quiet refl
 
-  others-quiet : (session desk : ℕ) → session ≢ pass.session → (world_of pass).quiet session desk ≡ no_quiet
+  pub others-quiet : (session desk : ℕ) → session ≢ pass.session → (world_of pass).quiet session desk ≡ no_quiet
   others-quiet session desk apart = other session pass.session (quiet_of (known_desk pass desk) session) no_quiet apart
 
 -- A pass has a desk out that it hasn't called.
@@ -58,7 +58,7 @@ module _ (pass : PassState) (out : IsOut pass) (fresh : pass.called ≡ false) w
   uncalled : out_desk pass ≡ met_at pass pass.out
   uncalled = out.uncalled fresh
 
-  no_new : new_entries pass ≡ []
+  pub no_new : new_entries pass ≡ []
   no_new = ap (λ (desk : Contents). drop (length (met_at pass pass.out).journal) desk.journal) uncalled ∙ drop-length (met_at pass pass.out).journal
 
   mine_is : (world_of pass).mine pass.session ≡ pass.mine
@@ -152,6 +152,13 @@ module _ (pass : PassState) (out : IsOut pass) (fresh : pass.called ≡ false) w
       few = out.few;
     }
 
+-- A desk that is out and wasn't called may be called for the session.
+pub may-out : (pass : PassState) → 1 ≤ pass.out → pass.called ≡ false → (world_of pass).may_call pass.out pass.session ≡ true
+may-out pass least fresh =
+    let some : nat_lt 0 pass.out ≡ true = grind (arith, nat_tests) in
+    ap₂ (λ (a b : Bool). a && b && is_callable pass) (eq-eqb pass.out pass.out refl) (eq-eqb pass.session pass.session refl)
+    ∙ ap₂ (λ (some called : Bool). some && not called) some fresh
+
 -- Which desk may be called, and for whom.
 pub record IsAllowed (pass : PassState) (desk session : ℕ) : Type 0 where
   pub desk_is : desk ≡ pass.out
@@ -190,16 +197,9 @@ allowed-is pass desk session may =
     none : (b c : Bool) → (false && b && c) ≡ true → {P : Type 0} → P
     none b c is = absurd (cc is)
 
--- What the code of a call has done: it has called the desk that is out with the stamp of the session's next entry.
-pub record Calls (pass : PassState) (me : Caller) (after : Contents → Stamp → Contents) (held new : Contents) (used : Stamp) : Type 0 where
-  pub held_is : pass.desk ≡ Some held
-  pub actor_is : used.actor ≡ me.actor
-  pub seq_is : used.seq ≡ length pass.mine + 1
-  pub turn_is : used.turn ≡ me.turn
-  pub new_is : new ≡ after held used
-  pub sound : IsSound new
-
-module _ (pass : PassState) (out : IsOut pass) (desk : ℕ) (me : Caller) (may : (world_of pass).may_call desk me.actor ≡ true) where
+-- The code of a call calls the desk that is out, with the stamp of the session's next entry.
+module _ (pass : PassState) (out : IsOut pass) (desk : ℕ) (me : Caller) (may : (world_of pass).may_call desk me.actor ≡ true) (held : Contents) (used : Stamp) (held_is : pass.desk ≡ Some held)
+    (used_is : used ≡ record { actor = me.actor; seq = length pass.mine + 1; turn = me.turn }) where
   abbrev at : Contents
   at = (world_of pass).contents desk
 
@@ -212,41 +212,45 @@ module _ (pass : PassState) (out : IsOut pass) (desk : ℕ) (me : Caller) (may :
   at_is : at ≡ met_at pass pass.out
   at_is = ap (known_desk pass) allowed.desk_is ∙ known_is pass out allowed.fresh
 
-  module _ (after : Contents → Stamp → Contents) (held new : Contents) (used : Stamp) (calls : Calls pass me after held new used) where
-    -- The code has called the desk with the stamp of which the contract speaks.
-    pub held_is_at : held ≡ at
-    held_is_at =
-        ap (λ (desk : Option Contents). unwrap_or desk no_desk) (sym calls.held_is) ∙ out.uncalled allowed.fresh ∙ sym at_is
+  held_at : held ≡ at
+  held_at = ap (λ (desk : Option Contents). unwrap_or desk no_desk) (sym held_is) ∙ out.uncalled allowed.fresh ∙ sym at_is
 
-    pub used_is : used ≡ stamp
-    used_is = λ k. record {
-      actor = calls.actor_is k;
-      seq = (calls.seq_is ∙ ap (λ (list : List Entry). length list + 1) (sym (ap (world_of pass).mine allowed.session_is ∙ mine_is pass out allowed.fresh))) k;
-      turn = calls.turn_is k;
-    }
+  used_stamp : used ≡ stamp
+  used_stamp =
+      used_is
+      ∙ (λ k. record {
+        actor = me.actor;
+        seq = ap (λ (list : List Entry). length list + 1) (sym (ap (world_of pass).mine allowed.session_is ∙ mine_is pass out allowed.fresh)) k;
+        turn = me.turn;
+      })
 
+  -- What its caller knows of the desk and the stamp is true of these.
+  pub holds_there : (P : Contents → Stamp → Type 0) → P at stamp → P held used
+  holds_there P is = subst₂ P (sym held_at) (sym used_stamp) is
+
+  -- So the call is one of the session, and the pass has the desk out as the call has left it.
+  module _ (after : Contents → Stamp → Contents) (new : Contents) (new_is : new ≡ after held used) (sound : IsSound new) (entries : List Entry)
+      (left : IsSound (after at stamp) → Leaves at (after at stamp) me.actor stamp.seq entries) where
     new_is_left : new ≡ after at stamp
-    new_is_left = calls.new_is ∙ ap₂ after held_is_at used_is
+    new_is_left = new_is ∙ ap₂ after held_at used_stamp
 
-    -- So the call is one of the session, and the pass has the desk out as the call has left it.
-    module _ (entries : List Entry) (left : IsSound (after at stamp) → Leaves at (after at stamp) me.actor stamp.seq entries) where
-      leaves : Leaves (met_at pass pass.out) (after at stamp) pass.session (length pass.mine + 1) entries
-      leaves =
-          subst (λ (found : Contents). Leaves found (after at stamp) pass.session (length pass.mine + 1) entries) at_is
-          (subst₂ (λ (session number : ℕ). Leaves at (after at stamp) session number entries) allowed.session_is
-          (sym (ap (λ (s : Stamp). s.seq) used_is) ∙ calls.seq_is) (left (subst IsSound new_is_left calls.sound)))
+    leaves : Leaves (met_at pass pass.out) (after at stamp) pass.session (length pass.mine + 1) entries
+    leaves =
+        subst (λ (found : Contents). Leaves found (after at stamp) pass.session (length pass.mine + 1) entries) at_is
+        (subst₂ (λ (session number : ℕ). Leaves at (after at stamp) session number entries) allowed.session_is
+        (ap (λ (s : Stamp). s.seq) (sym used_stamp ∙ used_is)) (left (subst IsSound new_is_left sound)))
 
-      abbrev next : PassState
-      next = record pass { desk = Some new; called = true }
+    abbrev next : PassState
+    next = record pass { desk = Some new; called = true }
 
-      next_is : (record pass { desk = Some (after at stamp); called = true }) ≡ next
-      next_is = ap (λ (d : Contents). let p : PassState = record pass { desk = Some d; called = true } in p) (sym new_is_left)
+    next_is : (record pass { desk = Some (after at stamp); called = true }) ≡ next
+    next_is = ap (λ (d : Contents). let p : PassState = record pass { desk = Some d; called = true } in p) (sym new_is_left)
 
-      pub IsCall-called : IsCall (world_of pass) (world_of next) desk me.actor entries (after at stamp)
-      IsCall-called =
-          subst₂ (λ (d s : ℕ). IsCall (world_of pass) (world_of next) d s entries (after at stamp)) (sym allowed.desk_is) (sym allowed.session_is)
-          (subst (λ (p : PassState). IsCall (world_of pass) (world_of p) pass.out pass.session entries (after at stamp)) next_is
-          (IsCall-out pass out allowed.fresh (after at stamp) entries leaves))
+    pub IsCall-called : IsCall (world_of pass) (world_of next) desk me.actor entries (after at stamp)
+    IsCall-called =
+        subst₂ (λ (d s : ℕ). IsCall (world_of pass) (world_of next) d s entries (after at stamp)) (sym allowed.desk_is) (sym allowed.session_is)
+        (subst (λ (p : PassState). IsCall (world_of pass) (world_of p) pass.out pass.session entries (after at stamp)) next_is
+        (IsCall-out pass out allowed.fresh (after at stamp) entries leaves))
 
-      pub IsOut-next : IsOut next
-      IsOut-next = subst IsOut next_is (IsOut-called pass out allowed.fresh (after at stamp) entries leaves)
+    pub IsOut-next : IsOut next
+    IsOut-next = subst IsOut next_is (IsOut-called pass out allowed.fresh (after at stamp) entries leaves)

@@ -1,3 +1,4 @@
+pub mod Called
 pub mod Calls
 pub mod Finishing
 pub mod Histories
@@ -8,4 +9,5 @@ pub mod NewDesks
 pub mod Passes
 pub mod Passing
 pub mod Sentences
+pub mod Still
 pub mod step

@@ -152,6 +152,7 @@ module _ (was now : Inside) (number index : ℕ) (me : Sitter) (taken : Contents
     next = takes.next_is ∙ is.next ∙ sym (ap (λ (m : Known). length m.mine + 1) one_is);
     out = ap (λ (v : View). v.out) view_is ∙ takes.index_is ∙ sym takes.out_is;
     away = ap (λ (m : Sitter). m.1) takes.me_is ∙ ap away_with (let index_is = takes.index_is in let same : suc index ≡ number = omega arith in same ∙ sym takes.out_is);
+    none = λ zero. let out_is = takes.out_is in let index_is = takes.index_is in absurd (omega arith);
     found = λ least. takes.found_is ∙ sym (ap (λ (p : PassState). length (met_at p p.out).journal) later_is ∙ ap (λ (d : Contents). length d.journal) taken-there);
     is_out = λ least. IsOut-taken;
   }
@@ -253,6 +254,7 @@ module _ (pass : Inside) (is : IsPass pass) (index : ℕ) (left : Contents) (at 
             omega arith);
         out = ap (λ (m : Sitter). m.0.out) now_me ∙ sym out_is;
         away = ap (λ (m : Sitter). m.1) now_me ∙ ap away_with (sym out_is);
+        none = λ zero. desk_is;
         found = λ least. absurd (omega arith);
         is_out = λ least. absurd (omega arith);
       }

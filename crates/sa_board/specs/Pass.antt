@@ -4,7 +4,7 @@ use Rattle.atomic_table.specs.Seated.{TableId}
 use Rattle.sa_desk.specs.declared.entry.Entry.{Entry}
 use Rattle.sa_desk.specs.Contents.{Contents, IsSound}
 use Rattle.sa_desk.specs.New.{no_desk}
-use Rattle.sa_desk.specs.World.{World, quiet_of, no_quiet, made_by, standing_on, Leaves}
+use Rattle.sa_desk.specs.World.{World, quiet_of, no_quiet, made_by, standing_on, Leaves, Begins}
 use Rattle.sa_board.specs.declared.view.Known.{Known}
 use Rattle.sa_board.specs.View.{desk_in}
 use Rattle.sa_board.specs.Rule.{Fits}
@@ -60,6 +60,15 @@ world_of pass = record {
   shares = λ desk. (known_desk pass desk).shares;
 }
 
+-- What a session knows of the desks in one world is still so in the next, where it may have seen
+-- more of one.
+pub record KnowsStill (before later : World) : Type 0 where
+  pub mine : (session : ℕ) → later.mine session ≡ before.mine session
+  pub seen : (session desk : ℕ) → 1 ≤ desk → Begins (before.seen session desk) (later.seen session desk)
+  pub quiet : (session desk : ℕ) → 1 ≤ desk → later.quiet session desk ≡ before.quiet session desk
+  pub terms : (desk : ℕ) → 1 ≤ desk → later.terms desk ≡ before.terms desk
+  pub shares : (desk : ℕ) → 1 ≤ desk → later.shares desk ≡ before.shares desk
+
 -- A desk is out, as the session has met it, or as one call of the session has left it.
 pub record IsOut (pass : PassState) : Type 0 where
   pub desk : pass.desk ≡ Some (out_desk pass)
@@ -74,6 +83,10 @@ pub record IsOut (pass : PassState) : Type 0 where
   pub uncalled : pass.called ≡ false → out_desk pass ≡ met_at pass pass.out
   -- numbers are left for the entries of a call
   pub few : length pass.mine ≤ 16 * 2 ^ 20
+
+-- Only the desk that is out has changed, by a call.
+abbrev pub SamePass : PassState → PassState → Type 0
+SamePass before later = later ≡ record before { desk = later.desk; called = later.called }
 
 -- The pass has taken the desk with this number out, of which the session had met a beginning.
 pub record HasTaken (before later : PassState) (desk : ℕ) : Type 0 where

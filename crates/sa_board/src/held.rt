@@ -1,6 +1,8 @@
-ghost use Rattle.std.specs.Prelude.{◌≡◌, ◌≤◌, length};
+ghost use Rattle.std.specs.Prelude.{◌≡◌, ◌≤◌, true, length};
 ghost use Rattle.sa_desk.specs.World.{Meets};
-ghost use Rattle.sa_board.specs.Pass.{IsOut, HasTaken, at_home, world_of};
+ghost use Rattle.sa_board.specs.Pass.{IsOut, HasTaken, KnowsStill, at_home, world_of};
+
+mod calls;
 
 use crate::board::Board;
 use crate::pass::Pass;
@@ -26,6 +28,8 @@ impl Board {
         ensures board { result.board.now ≡ self.now }
         ensures taken { HasTaken pass.old result.pass.now desk }
         ensures out { IsOut result.pass.now }
+        ensures still { KnowsStill (world_of pass.old) (world_of result.pass.now) }
+        ensures allowed { (world_of result.pass.now).may_call desk pass.old.session ≡ true }
         ensures meets { Meets (world_of result.pass.now) desk pass.old.session }
     {
         pass.take_out(rt, self, desk);
@@ -38,21 +42,9 @@ impl<'a, 'p> Held<'a, 'p> {
     pub fn home(self)
         requires { 1 ≤ self.pass.now.out }
         ensures home { self.exit.0.now ≡ at_home self.entry.pass.now }
+        ensures still { KnowsStill (world_of self.entry.pass.now) (world_of self.exit.0.now) }
     {
         let Held { pass, board } = self;
         pass.bring_back(board);
     }
-}
-
-/// Takes a desk out and brings it home again, twice.
-fn visit_twice<R: Wait>(rt: &R, board: &Board, pass: &mut Pass, desk: u32)
-    requires board { pass.old.table ≡ board.now.table }
-    requires idle { pass.old.out ≡ 0 }
-    requires least { 1 ≤ desk }
-    requires most { desk ≤ length board.now.founded }
-    ensures table { pass.new.table ≡ pass.old.table }
-    ensures idle { pass.new.out ≡ 0 }
-{
-    board.hold(rt, pass, desk).home();
-    board.hold(rt, pass, desk).home();
 }

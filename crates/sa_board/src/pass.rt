@@ -1,10 +1,12 @@
-ghost use Rattle.std.specs.Prelude.{◌≡◌, ◌≤◌, [], ◌∷◌, None, false, length};
+ghost use Rattle.std.specs.Prelude.{◌≡◌, ◌+◌, ◌≤◌, [], ◌∷◌, None, false, length};
 ghost use Rattle.sa_board.specs.View.{newcomer};
 ghost use Rattle.sa_board.specs.inner.Pass.{one_of};
-ghost use Rattle.sa_board.specs.Pass.{IsOut, HasTaken, at_home, known_of};
+ghost use Rattle.sa_board.specs.Pass.{IsOut, HasTaken, KnowsStill, at_home, known_of, world_of};
+
+mod calls;
 
 use crate::board::{Board, Place, acquire, bring_home, bring_out, raise, release};
-use sa_desk::Desk;
+use sa_desk::{Caller, Desk, Stamp};
 use std::marker::Model;
 use std::sync::Wait;
 
@@ -71,6 +73,17 @@ impl Pass {
         }
     }
 
+    /// The stamp of the session's next entry.
+    fn stamp(&self, me: Caller) -> Stamp
+        ensures { result ≡ record { actor = me.actor; seq = length self.now.mine + 1; turn = me.turn } }
+    {
+        Stamp {
+            actor: me.actor,
+            seq: self.next,
+            turn: me.turn,
+        }
+    }
+
     /// The seat, of which the session's end is made.
     pub(crate) fn into_seat(self) -> Place
         requires { self.out ≡ 0 }
@@ -91,6 +104,7 @@ impl Pass {
         requires most { desk ≤ length board.now.founded }
         ensures taken { HasTaken self.old self.new desk }
         ensures out { IsOut self.new }
+        ensures still { KnowsStill (world_of self.old) (world_of self.new) }
     {
         let index = (desk - 1) as usize;
         acquire(rt, board, &mut self.seat, index);
@@ -107,6 +121,7 @@ impl Pass {
         requires out { 1 ≤ self.old.out }
         requires most { self.old.out ≤ length board.now.founded }
         ensures home { self.new ≡ at_home self.old }
+        ensures still { KnowsStill (world_of self.old) (world_of self.new) }
     {
         let index = (self.out - 1) as usize;
         let Some(desk) = self.desk.take() else {

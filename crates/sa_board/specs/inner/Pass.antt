@@ -38,5 +38,6 @@ pub record IsPass (pass : Inside) : Type 0 where
   pub next : pass.next ≡ length (one_of pass.seat.me.0).mine + 1
   pub out : pass.seat.me.0.out ≡ pass.out
   pub away : pass.seat.me.1 ≡ away_with pass.out
+  pub none : pass.out ≡ 0 → pass.desk ≡ None
   pub found : 1 ≤ pass.out → pass.found ≡ length (met_at (state_of pass) pass.out).journal
   pub is_out : 1 ≤ pass.out → IsOut (state_of pass)
