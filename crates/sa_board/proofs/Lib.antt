@@ -1,6 +1,7 @@
 pub mod Called
 pub mod Calls
 pub mod Finishing
+pub mod First
 pub mod Histories
 pub mod Lists
 pub mod Locks

@@ -22,7 +22,7 @@ slice_index_or-replicate count index thing =
     ]
 
 -- A new desk counts nothing.
-quiet_of-new : (number quantum turns : ℕ) (shares : List ℕ) (session : ℕ) → quiet_of (new_desk number quantum turns shares) session ≡ no_quiet
+pub quiet_of-new : (number quantum turns : ℕ) (shares : List ℕ) (session : ℕ) → quiet_of (new_desk number quantum turns shares) session ≡ no_quiet
 quiet_of-new number quantum turns shares session =
     let polls : slice_index (replicate (length shares) 0) (session - 1) ≡ 0 = slice_index_or-replicate (length shares) (session - 1) 0 in
     let none : Option OpenWait = None in

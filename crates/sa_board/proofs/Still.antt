@@ -55,7 +55,7 @@ still before later session_is mine_is each = record {
 }
 
 -- Nothing is new where no desk is out.
-none_new : (pass : PassState) → pass.desk ≡ None → new_entries pass ≡ []
+pub none_new : (pass : PassState) → pass.desk ≡ None → new_entries pass ≡ []
 none_new pass none =
     ap (λ (desk : Option Contents). drop (length (met_at pass pass.out).journal) (unwrap_or desk no_desk).journal) none ∙ drop-nil (length (met_at pass pass.out).journal)
 

@@ -1,8 +1,10 @@
-ghost use Rattle.std.specs.Prelude.{◌≡◌, ℕ, ◌≤◌, ◌+◌, [], ◌∷◌, map, length, replicate, Some, IfOk};
+ghost use Rattle.std.specs.Prelude.{◌≡◌, ℕ, ◌≤◌, ◌+◌, [], ◌∷◌, map, length, replicate, Some, All, IfOk};
 ghost use Rattle.std.specs.List.{range_with_len};
 ghost use Rattle.std.specs.Vec.{vec_capacity};
 ghost use Rattle.sa_desk.specs.New.{AreNew};
+ghost use Rattle.sa_desk.specs.World.{IsFirst};
 ghost use Rattle.sa_board.specs.Board.{new_pass, new_passes};
+ghost use Rattle.sa_board.specs.Pass.{world_of};
 ghost use Rattle.sa_board.specs.View.{first_view, newcomer};
 ghost use Rattle.sa_board.specs.inner.Pass.{one_of};
 
@@ -26,6 +28,7 @@ impl Board {
         requires least { 1 ≤ length desks.items }
         ensures board { IfOk result (λ made. made.0.founded ≡ desks.items) }
         ensures passes { IfOk result (λ made. made.1.items ≡ new_passes made.0) }
+        ensures first { IfOk result (λ made. All (λ pass. IsFirst (world_of pass)) made.1.items) }
     {
         let passes = Vec::with_capacity(alloc, desks.len())?;
         let (board, first) = found(alloc, desks)?;
