@@ -8,6 +8,7 @@
 mod failing_calls;
 mod memory_sink;
 mod memory_source;
+mod pause;
 mod plain_sink;
 mod plain_source;
 mod sink;
@@ -18,6 +19,7 @@ mod transfer;
 
 pub use memory_sink::MemorySink;
 pub use memory_source::MemorySource;
+pub use pause::{MeetPause, Pause, QuietPause, SnoozePause};
 pub use plain_sink::PlainSink;
 pub use plain_source::PlainSource;
 pub use sink::{Sink, SinkFault};

@@ -1,8 +1,8 @@
 ghost use Rattle.std.specs.Prelude.{◌<◌};
 
 use sa_source::{
-    Failed, MemorySink, MemorySource, PlainSink, PlainSource, ReadStop, Sink, SinkFault, Source,
-    StdSink, StdSource, read_up_to, write_all,
+    Failed, MeetPause, MemorySink, MemorySource, Pause, PlainSink, PlainSource, QuietPause,
+    ReadStop, Sink, SinkFault, SnoozePause, Source, StdSink, StdSource, read_up_to, write_all,
 };
 use std::alloc::{AllocError, Global};
 use std::io;
@@ -243,4 +243,21 @@ fn counts_no_progress_as_fault(rt: HostRuntime) {
     assert_eq!(rt; sink.write(b"full"), Ok(3));
     assert_eq!(rt; sink.write(b""), Ok(0));
     assert_eq!(rt; sink.write(b"l"), Err(SinkFault::Failed));
+}
+
+/// Pauses three times.
+fn pause_thrice(pause: &impl Pause) {
+    for _ in 0..3 {
+        pause.pause();
+    }
+}
+
+#[test]
+fn one_thread_meets_nobody(rt: HostRuntime) -> Result<(), Fail> {
+    let meeting = MeetPause::new(10);
+    pause_thrice(&meeting);
+    assert!(rt; !meeting.met());
+    pause_thrice(&QuietPause);
+    pause_thrice(&SnoozePause::new());
+    Ok(())
 }
