@@ -1,0 +1,15 @@
+pub mod Fault
+pub mod Same
+pub mod Sight
+pub mod Reading
+pub mod Node
+pub mod NodeFaults
+pub mod Expression
+pub mod Tables
+pub mod Selected
+pub mod Clauses
+pub mod Faults
+pub mod Resolved
+pub mod Told
+pub mod Proper
+pub mod inner

@@ -1,0 +1,16 @@
+pub mod Ends
+pub mod Kind
+pub mod Least
+pub mod Same
+pub mod Gist
+pub mod Meanings
+pub mod Names
+pub mod Indexed
+pub mod Sighted
+pub mod Looking
+pub mod Building
+pub mod Walking
+pub mod Listing
+pub mod Knowing
+pub mod Judging
+pub mod Grouped
