@@ -1,0 +1,12 @@
+pub mod EndsLemmas
+pub mod ReachLemmas
+pub mod LeastLemmas
+pub mod GistLemmas
+pub mod NodeGists
+pub mod LawLemmas
+pub mod Places
+pub mod fit
+pub mod names
+pub mod judging
+pub mod walk
+pub mod list

@@ -1,0 +1,13 @@
+pub mod Aliases
+pub mod Choosing
+pub mod Enumerated
+pub mod Faults
+pub mod Grouping
+pub mod Items
+pub mod Judging
+pub mod Limit
+pub mod Listing
+pub mod Lists
+pub mod Parts
+pub mod Positions
+pub mod Stars

@@ -1,0 +1,10 @@
+pub mod Seeing
+pub mod Indexes
+pub mod NamedTables
+pub mod Positions
+pub mod Columns
+pub mod Aliased
+pub mod Sights
+pub mod Qualified
+pub mod Standing
+pub mod TableFaults

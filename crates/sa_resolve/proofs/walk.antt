@@ -1,0 +1,16 @@
+pub mod Readings
+pub mod Mentions
+pub mod Built
+pub mod Aliases
+pub mod Looked
+pub mod Loops
+pub mod Leaves
+pub mod Names
+pub mod Standing
+pub mod Values
+pub mod Conditions
+pub mod Placed
+pub mod Whole
+pub mod Unconditional
+pub mod Named
+pub mod Listed
