@@ -1,4 +1,10 @@
-pub mod May
+pub mod PlaceLemmas
+pub mod Uncalled
+pub mod Built
+pub mod Fits
+pub mod Planning
 pub mod Bounded
-pub mod Lawful
+pub mod May
+pub mod SoundPlan
 pub mod SoundWork
+pub mod answers

@@ -1,5 +1,6 @@
-pub mod FirstForm
-pub mod FirstPlan
+pub mod Unbuilt
+pub mod PlanFor
 pub mod Prepared
 pub mod Sound
+pub mod Answered
 pub mod inner

@@ -1,12 +1,13 @@
 -- Which answer the text of a statement has: a canonical text and what the statement does, or the
 -- reason why it is refused.
-use Rattle.std.specs.Prelude.{◌≡◌, ◌≢◌, ℕ, List, [], ◌∷◌, Option, Some, None, option_and_then, option_map}
+use Rattle.std.specs.Prelude.{◌≡◌, ◌≢◌, ℕ, List, [], ◌∷◌, Option, Some, None}
 use Rattle.std.specs.declared.result.Result.{Result}
 use Rattle.std.specs.declared.result.Result.TheVariants.{Ok, Err}
 use Rattle.sa_lexer.specs.declared.fault.LexKind.{LexKind}
 use Rattle.sa_lexer.specs.declared.token.Token.{Token}
 use Rattle.sa_lexer.specs.Faulty.{IsFaulty}
 use Rattle.sa_lexer.specs.Grammar.{AreTokens}
+use Rattle.sa_ast.specs.declared.select.SelectTree.{SelectTree}
 use Rattle.sa_ast.specs.declared.statement.Statement.{Statement}
 use Rattle.sa_ast.specs.declared.statement.Statement.TheVariants as tree
 use Rattle.sa_print.specs.Statement.{canonical_statement}
@@ -20,8 +21,10 @@ use Rattle.sa_plan.specs.declared.plan.Plan.{Plan}
 use Rattle.sa_plan.specs.declared.prepared.Prepared.{Prepared}
 use Rattle.sa_plan.specs.declared.prepared.Work.{Work}
 use Rattle.sa_plan.specs.declared.prepared.Work.TheVariants as work
-use Rattle.sa_prepare.specs.FirstForm.{first_form}
-use Rattle.sa_prepare.specs.FirstPlan.{first_plan}
+use Rattle.sa_resolve.specs.Fault.{Fault, least}
+use Rattle.sa_resolve.specs.Resolved.{faults_of, query_of}
+use Rattle.sa_prepare.specs.PlanFor.{plan_for}
+use Rattle.sa_prepare.specs.Unbuilt.{least_place, unbuilt_places}
 
 -- how a fault of the grammar is refused
 abbrev pub refusal_of : ParseFault → Refusal
@@ -38,24 +41,50 @@ first_place (token ∷ tokens) = token.start
 abbrev pub select_work : Plan → Work
 select_work plan = work.Select (record { plan = plan })
 
--- What a statement does, if that is built.
-abbrev pub work_of : List Table → Statement → Option Work
-work_of tables (tree.Select select) =
-    option_map select_work (option_and_then (first_plan tables) (first_form select))
-work_of tables (tree.Show kind id) = Some (work.Show kind id)
-work_of tables (tree.Kill kind id) = Some (work.Kill kind id)
-work_of tables (tree.SetLimit limit) = Some (work.SetLimit limit)
-work_of tables (tree.Wait id at) = Some (work.Wait id at)
-work_of tables statement = None
+-- What a statement does that neither is nor has a SELECT, if that is built.
+abbrev pub work_of : Statement → Option Work
+work_of (tree.Show kind id) = Some (work.Show kind id)
+work_of (tree.Kill kind id) = Some (work.Kill kind id)
+work_of (tree.SetLimit limit) = Some (work.SetLimit limit)
+work_of (tree.Wait id at) = Some (work.Wait id at)
+work_of statement = None
 
--- The answer to a statement: what it does, or that its first token isn't supported.
-abbrev pub built_or_refused : List Token → Statement → Option Work → Result Prepared Refusal
-built_or_refused tokens statement None = Err (refusal.NotSupported (first_place tokens))
-built_or_refused tokens statement (Some does) =
-    Ok (record { text = canonical_statement statement; work = does })
+-- the statement is ready to do this
+abbrev pub ready_with : Statement → Work → Result Prepared Refusal
+ready_with statement does = Ok (record { text = canonical_statement statement; work = does })
 
+-- its first token isn't supported
+abbrev pub unsupported : List Token → Result Prepared Refusal
+unsupported tokens = Err (refusal.NotSupported (first_place tokens))
+
+abbrev pub built_or_unsupported : List Token → Statement → Option Work → Result Prepared Refusal
+built_or_unsupported tokens statement None = unsupported tokens
+built_or_unsupported tokens statement (Some does) = ready_with statement does
+
+-- A SELECT whose names are resolved has its plan, or is refused at the least place of what isn't
+-- built.
+abbrev pub planned_or_unsupported : List Table → Statement → SelectTree → Option ℕ
+    → Result Prepared Refusal
+planned_or_unsupported tables statement select None =
+    ready_with statement (select_work (plan_for tables (query_of tables select)))
+planned_or_unsupported tables statement select (Some place) = Err (refusal.NotSupported place)
+
+-- the answer to a statement with a SELECT, where nothing is wrong with that
+abbrev pub unless_faulty : Option Fault → Result Prepared Refusal → Result Prepared Refusal
+unless_faulty None answer = answer
+unless_faulty (Some fault) answer = Err (refusal.Resolve fault.kind fault.place)
+
+-- What is wrong with a SELECT is told first, and then what isn't built.
 abbrev pub answer_to : List Table → List Token → Statement → Result Prepared Refusal
-answer_to tables tokens statement = built_or_refused tokens statement (work_of tables statement)
+answer_to tables tokens (tree.Select select) =
+    unless_faulty (least (faults_of tables select))
+    (planned_or_unsupported tables (tree.Select select) select
+    (least_place (unbuilt_places tokens select)))
+answer_to tables tokens (tree.Explain select) =
+    unless_faulty (least (faults_of tables select)) (unsupported tokens)
+answer_to tables tokens (tree.Analyze select) =
+    unless_faulty (least (faults_of tables select)) (unsupported tokens)
+answer_to tables tokens statement = built_or_unsupported tokens statement (work_of statement)
 
 -- The text is refused for the leftmost fault of its tokens, else for the first fault in them, else
 -- it has its statement's answer.

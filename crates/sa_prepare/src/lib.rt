@@ -1,14 +1,16 @@
-//! What a statement's text asks for: read, and planned over the tables.
+//! What a statement's text asks for: read, resolved over the tables, and planned.
 //!
 //! A worker prepares each statement by `Ready` in the statement's first turn.
 #![tactic(auto)]
 
-mod first_form;
 mod law;
+mod place;
 mod plan;
 mod ready;
 mod refusal;
+mod select;
+mod unbuilt;
 mod work;
 
-pub use law::prepared_is_sound;
+pub use law::{a_scan_answers_its_query, prepared_is_sound, ready_selects_answer_their_texts};
 pub use ready::Ready;

@@ -1,10 +1,10 @@
 ghost use Rattle.std.specs.Prelude.{◌≡◌};
 ghost use Rattle.std.specs.Arc.{arc_value};
-ghost use Rattle.sa_prepare.specs.Prepared.{first_place, Prepares};
+ghost use Rattle.sa_prepare.specs.Prepared.{Prepares};
 
 use crate::refusal::{lex_refusal, parse_refusal};
-use crate::work::ready_of;
-use sa_lexer::{Token, tokens};
+use crate::work::answer_to;
+use sa_lexer::tokens;
 use sa_parser::parse;
 use sa_plan::{Prepared, Preparer};
 use sa_query::Refusal;
@@ -51,22 +51,6 @@ impl Preparer for Ready {
             Ok(statement) => statement,
             Err(fault) => return Err(parse_refusal(fault)),
         };
-        match ready_of(alloc, self.tables.tables(), &statement) {
-            Ok(Some(prepared)) => Ok(prepared),
-            Ok(None) => Err(Refusal::NotSupported {
-                place: first_place(tokens.as_slice()),
-            }),
-            Err(_) => Err(Refusal::OutOfMemory),
-        }
-    }
-}
-
-/// Where the first token stands.
-fn first_place(tokens: &[Token]) -> usize
-    ensures { result ≡ first_place tokens.now }
-{
-    match tokens {
-        [] => 0,
-        [first, ..] => first.start,
+        answer_to(alloc, self.tables.tables(), tokens.as_slice(), &statement)
     }
 }

@@ -1,82 +1,69 @@
-ghost use Rattle.std.specs.Prelude.{◌≡◌, IfOk, option_map};
-ghost use Rattle.std.specs.Option.{option_and_then};
+ghost use Rattle.std.specs.Prelude.{◌≡◌, ◌≤◌, IfOk, length, option_map};
+ghost use Rattle.sa_plan.specs.Answer.{MayAnswer};
 ghost use Rattle.sa_print.specs.Statement.{HasText};
-ghost use Rattle.sa_prepare.specs.FirstForm.{first_form};
-ghost use Rattle.sa_prepare.specs.FirstPlan.{first_plan};
-ghost use Rattle.sa_prepare.specs.Prepared.{select_work, work_of};
-ghost use Rattle.sa_prepare.specs.inner.Refused.{ready_of};
+ghost use Rattle.sa_prepare.specs.Prepared as spec;
+ghost use Rattle.sa_prepare.specs.inner.Refused.{HasTables};
 
-use crate::first_form::first_form;
-use crate::plan::first_plan;
-use sa_ast::{SelectTree, Statement};
-use sa_plan::{Plan, Planned, Prepared, SharedPlan, Work};
+use crate::refusal::unsupported;
+use crate::select::{answer_other, answer_select};
+use sa_ast::Statement;
+use sa_lexer::Token;
+use sa_plan::{Prepared, Work};
 use sa_print::statement_text;
+use sa_query::Refusal;
 use sa_table::Tables;
-use sa_value::OutOfMemory;
 use std::alloc::Global;
-use std::sync::Arc;
 
-/// The plan of a SELECT, if it is built.
-fn plan_of(alloc: Global, tables: &Tables, select: &SelectTree) -> Result<Option<Plan>, OutOfMemory>
-    ensures { IfOk result
-        (λ plan. plan ≡ option_and_then (first_plan tables.now) (first_form select.now)) }
-{
-    match first_form(select) {
-        None => Ok(None),
-        Some(form) => first_plan(alloc, tables, &form),
-    }
-}
-
-/// What a SELECT does that has this plan.
-fn select_work(alloc: Global, plan: Plan) -> Result<Work, OutOfMemory>
-    ensures { IfOk result (λ does. does ≡ select_work plan) }
-{
-    Ok(Work::Select(Planned {
-        plan: SharedPlan::new(Arc::new(alloc, plan)?),
-    }))
-}
-
-/// What a statement does, if that is built.
-fn work_of(
-    alloc: Global,
-    tables: &Tables,
-    statement: &Statement,
-) -> Result<Option<Work>, OutOfMemory>
-    ensures { IfOk result (λ does. does ≡ work_of tables.now statement.now) }
+/// What a statement does that neither is nor has a SELECT, if that is built.
+fn work_of(statement: &Statement) -> Option<Work>
+    ensures { result ≡ spec.work_of statement.now }
 {
     match statement {
-        Statement::Select(select) => match plan_of(alloc, tables, select)? {
-            None => Ok(None),
-            Some(plan) => Ok(Some(select_work(alloc, plan)?)),
-        },
-        Statement::Show { kind, id } => Ok(Some(Work::Show {
+        Statement::Show { kind, id } => Some(Work::Show {
             kind: *kind,
             id: *id,
-        })),
-        Statement::Kill { kind, id } => Ok(Some(Work::Kill {
+        }),
+        Statement::Kill { kind, id } => Some(Work::Kill {
             kind: *kind,
             id: *id,
-        })),
-        Statement::SetLimit(limit) => Ok(Some(Work::SetLimit(*limit))),
-        Statement::Wait { id, at } => Ok(Some(Work::Wait { id: *id, at: *at })),
-        _ => Ok(None),
+        }),
+        Statement::SetLimit(limit) => Some(Work::SetLimit(*limit)),
+        Statement::Wait { id, at } => Some(Work::Wait { id: *id, at: *at }),
+        _ => None,
     }
 }
 
-/// A statement ready to run, if what it does is built.
-pub(crate) fn ready_of(
+/// The answer to a statement that neither is nor has a SELECT.
+fn answer_work(alloc: Global, tokens: &[Token], statement: &Statement) -> Result<Prepared, Refusal>
+    requires { HasText statement.now }
+    ensures { MayAnswer (λ answer. answer ≡
+        spec.built_or_unsupported tokens.now statement.now (spec.work_of statement.now)) result }
+{
+    let Some(work) = work_of(statement) else {
+        return Err(unsupported(tokens));
+    };
+    match statement_text(alloc, statement) {
+        Ok(text) => Ok(Prepared { text, work }),
+        Err(_) => Err(Refusal::OutOfMemory),
+    }
+}
+
+/// The answer to a statement.
+pub(crate) fn answer_to(
     alloc: Global,
     tables: &Tables,
+    tokens: &[Token],
     statement: &Statement,
-) -> Result<Option<Prepared>, OutOfMemory>
-    requires { HasText statement.now }
-    ensures { IfOk result (λ ready. ready ≡ ready_of tables.now statement.now) }
+) -> Result<Prepared, Refusal>
+    requires text { HasText statement.now }
+    requires from { HasTables statement.now }
+    ensures { MayAnswer (λ answer. answer ≡ spec.answer_to tables.now tokens.now statement.now) result }
 {
-    match work_of(alloc, tables, statement)? {
-        None => Ok(None),
-        Some(work) => Ok(Some(Prepared {
-            text: statement_text(alloc, statement)?,
-            work,
-        })),
+    match statement {
+        Statement::Select(select) => answer_select(alloc, tables, tokens, statement, select),
+        Statement::Explain(select) | Statement::Analyze(select) => {
+            answer_other(alloc, tables, tokens, select)
+        }
+        _ => answer_work(alloc, tokens, statement),
     }
 }

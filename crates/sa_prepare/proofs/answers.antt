@@ -1,0 +1,4 @@
+pub mod Conditions
+pub mod Scanned
+pub mod Scan
+pub mod Texts
