@@ -7,6 +7,7 @@ pub mod Shown
 pub mod Telling
 pub mod Prepared
 pub mod Rows
+pub mod Answered
 pub mod Runs
 pub mod Talks
 pub mod Asks

@@ -3,6 +3,7 @@
 ghost use Rattle.std.specs.Prelude.{◌≡◌, ℕ, ◌≤◌, List, ◌∷◌, ◌++◌, length};
 ghost use Rattle.sa_value.specs.declared.value.Value.{Value};
 ghost use Rattle.sa_count.specs.declared.report.Report.{Report};
+ghost use Rattle.sa_prepare.specs.Prepared.{Prepares};
 ghost use Rattle.sa_desk.specs.declared.entry.Entry.{Entry};
 ghost use Rattle.sa_desk.specs.declared.entry.Event.TheVariants.{End, Served};
 ghost use Rattle.sa_desk.specs.declared.outcome.Outcome.{Outcome};
@@ -10,11 +11,13 @@ ghost use Rattle.sa_desk.specs.declared.outcome.Outcome.TheVariants.{Rows};
 ghost use Rattle.sa_desk.specs.Legal.{Sessions, given_of, journal_at, IsLegal};
 ghost use Rattle.sa_desk.specs.law.Interrupted.{EndsAsKilled};
 ghost use Rattle.sa_desk.specs.program.SoFar.{terms_of};
+ghost use Rattle.sa_legal.specs.Answered.{AnswersStatement};
 ghost use Rattle.sa_legal.specs.Requests.{AreRequests, notes_of};
 ghost use Rattle.sa_legal.specs.Rows.{HasRows};
 ghost use Rattle.sa_legal.specs.Runs.{ShowsRun};
 
 use sa_plan::Preparer;
+use sa_value::order_is_total;
 
 /// A statement that ends with rows is a SELECT, and has all rows that its plan gives over the
 /// tables, whatever others ask, are answered or do meanwhile.
@@ -28,6 +31,21 @@ pub fn finished_selects_have_their_rows<P: Preparer>(prepare: &P)
         entry.event ≡ End number (Rows names rows) steps →
         HasRows (P.answers prepare.now) (given_of sessions desk) number names rows }
 {}
+
+/// Where each text was answered as `sa_prepare` says, a statement that ends with rows is a SELECT
+/// that has a query over the tables, and its rows answer that query.
+pub fn finished_selects_answer_their_queries()
+    ensures { (sessions : Sessions) (journals : List (List Entry)) →
+        IsLegal (Prepares sessions.tables) sessions journals →
+        (desk : ℕ) → 1 ≤ desk → desk ≤ length journals →
+        (before rest : List Entry) (entry : Entry) →
+        journal_at journals desk ≡ before ++ entry ∷ rest →
+        (number steps : ℕ) (names : List (List ℕ)) (rows : List (List Value)) →
+        entry.event ≡ End number (Rows names rows) steps →
+        AnswersStatement (given_of sessions desk) number names rows }
+{
+    order_is_total();
+}
 
 /// A session's requests at a desk come one after another, each of a later statement than the one
 /// before. Each is refused; or queued, answered once and taken; or queued, and spent or withdrawn.

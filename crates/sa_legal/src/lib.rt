@@ -8,7 +8,7 @@ mod law;
 mod told;
 
 pub use law::{
-    finished_selects_have_their_rows, interrupted_is_killed, requests_have_one_answer,
-    shown_plans_run,
+    finished_selects_answer_their_queries, finished_selects_have_their_rows, interrupted_is_killed,
+    requests_have_one_answer, shown_plans_run,
 };
 pub use told::legal_journals_can_be_told;
