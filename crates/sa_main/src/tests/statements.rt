@@ -49,10 +49,34 @@ fn refuses_statements_at_their_places(rt: HostRuntime) -> Result<(), Fail> {
             16,
             "NotSupported",
         ),
+        ("SELECT x FROM t LIMIT 1", 7, "UnknownColumn"),
+        ("EXPLAIN SELECT x FROM t", 15, "UnknownColumn"),
+        ("SELECT a FROM t WHERE a = 'x'", 24, "TypeMismatch"),
     ];
     for (statement, place, why) in rows {
         let end = format!(in rt.alloc();
             "\"kind\":\"refused\",\"place\":{place},\"why\":\"{why}\""
+        )?;
+        ends(&rt, rt.alloc(), statement, end.as_str())?;
+    }
+    Ok(())
+}
+
+#[test]
+fn refuses_what_is_not_built(rt: HostRuntime) -> Result<(), Fail> {
+    let rows = [
+        ("EXPLAIN SELECT a FROM t", 0),
+        ("SET optimizer_trace = 'enabled=on'", 0),
+        ("SELECT DISTINCT a FROM t", 7),
+        ("SELECT t.a FROM t, t AS u", 19),
+        ("SELECT a FROM t GROUP BY a", 16),
+        ("SELECT a FROM t ORDER BY a LIMIT 1", 16),
+        ("SELECT a FROM t LIMIT 1", 16),
+        ("SELECT MAX(a) FROM t HAVING COUNT(*) > 1", 7),
+    ];
+    for (statement, place) in rows {
+        let end = format!(in rt.alloc();
+            "\"kind\":\"refused\",\"place\":{place},\"why\":\"NotSupported\""
         )?;
         ends(&rt, rt.alloc(), statement, end.as_str())?;
     }

@@ -8,7 +8,7 @@ ghost use Rattle.sa_worker_tests.specs.Listed.{listed};
 use crate::tests::script::QUERY;
 use sa_plan::{Planned, Prepared, Preparer, Work};
 use sa_prepare::{Ready, prepared_is_sound};
-use sa_query::{Refusal, ResolveKind};
+use sa_query::Refusal;
 use sa_table::Tables;
 use sa_value::Text;
 use std::alloc::Global;
@@ -52,7 +52,7 @@ enum Does {
 }
 
 /// A statement as it is written, its canonical text, and what it does.
-const LIST: [(&str, &str, Does); 7] = [
+const LIST: [(&str, &str, Does); 6] = [
     (
         "EXPLAIN SELECT a FROM t WHERE a >= 2",
         "EXPLAIN SELECT a FROM t WHERE (a >= 2)",
@@ -77,14 +77,6 @@ const LIST: [(&str, &str, Does); 7] = [
         "SELECT * FROM information_schema.optimizer_trace",
         "SELECT * FROM information_schema.optimizer_trace",
         Does::TraceRows,
-    ),
-    (
-        "SELECT b FROM t",
-        "",
-        Does::Refuses(Refusal::Resolve {
-            fault: ResolveKind::UnknownColumn,
-            place: 7,
-        }),
     ),
     ("no memory", "", Does::Refuses(Refusal::OutOfMemory)),
 ];
