@@ -1,5 +1,7 @@
 pub mod Called
 pub mod Calls
+pub mod Carried
+pub mod Crosses
 pub mod Finishing
 pub mod First
 pub mod Histories

@@ -5,6 +5,7 @@
 #![tactic(auto)]
 
 mod board;
+mod crossing;
 mod ending;
 mod founding;
 mod held;
@@ -14,6 +15,7 @@ mod plays;
 mod view;
 
 pub use board::Board;
+pub use crossing::{boards_share, passes_send};
 pub use held::Held;
 pub use law::rule_says;
 pub use pass::Pass;
