@@ -1,4 +1,5 @@
-ghost use Rattle.std.specs.Prelude.{◌≡◌, ◌<◌, ◌≤◌, ◌↔◌, [], ◌∷◌, ◌++◌, length, IsTrue, OnOk, OnErr};
+ghost use Rattle.std.specs.Prelude.{◌≡◌, ◌<◌, ◌≤◌, ◌↔◌, [], ◌∷◌, ◌++◌, length, take, IsTrue, IfOk, OnOk, OnErr};
+ghost use Rattle.sa_key.specs.Range.{without_last_nulls};
 
 use crate::key_ref::KeyRef;
 use sa_value::{OutOfMemory, Value, Values};
@@ -81,4 +82,41 @@ impl KeyTuple {
         }
         lent
     }
+
+    /// An equal tuple, whose texts take memory from `alloc`.
+    pub fn copy(&self, alloc: Global) -> Result<KeyTuple, OutOfMemory>
+        ensures { IfOk result (λ tuple. tuple ≡ self.now) }
+    {
+        let mut copy = KeyTuple::new(alloc);
+        for value in self.values.as_slice() {
+            copy.push(value.copy(alloc)?)?;
+        }
+        Ok(copy)
+    }
+
+    /// The tuple without the NULLs at its end. It takes no memory.
+    pub fn without_last_nulls(self) -> KeyTuple
+        ensures { result ≡ without_last_nulls self }
+    {
+        let KeyTuple { values } = self;
+        let mut values = values.into_vec();
+        values.truncate(kept_length(values.as_slice()));
+        KeyTuple {
+            values: Values::from_vec(values),
+        }
+    }
+}
+
+/// How many values stay where the NULLs at the end are dropped.
+fn kept_length(values: &[Value]) -> usize
+    ensures { take result values.now ≡ without_last_nulls values.now }
+{
+    let mut kept = 0;
+    for index in 0..values.len() {
+        kept = match values[index] {
+            Value::Null => kept,
+            _ => index + 1,
+        };
+    }
+    kept
 }

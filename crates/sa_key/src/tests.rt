@@ -165,3 +165,117 @@ fn owned(alloc: Global) -> Result<KeyTuple, OutOfMemory> {
     tuple.push(Value::Text(Text::from_str(alloc, "a")?))?;
     Ok(tuple)
 }
+
+/// Cuts: name, a side and a tuple, another side and tuple, and how they stand.
+const ORDERED_CUTS: &str = "\
+below and above | Below | 1 | Above | 1 | Less
+above and below | Above | 1 | Below | 1 | Greater
+both below | Below | 1, 'a | Below | 1, 'a | Equal
+both above, two widths | Above | 7 | Above | BIG 7 | Equal
+the first part decides | Above | 1, 9 | Below | 2 | Less
+the second part decides | Below | 1, 3 | Above | 1, 2 | Greater
+a shorter one below | Below | 1 | Below | 1, NULL | Less
+a shorter one above | Above | 1 | Above | 1, 'z | Greater
+a longer one and a shorter one below | Below | 1, NULL | Below | 1 | Greater
+a longer one and a shorter one above | Above | 1, 'z | Above | 1 | Less
+none below | Below | | Below | NULL | Less
+none above | Above | | Above | 'z | Greater
+none below and none above | Below | | Above | | Less
+NULL and a number | Above | NULL | Below | -9223372036854775808 | Less
+a shorter one that is behind | Below | 2 | Above | 1, 9 | Greater
+four parts and three | Below | 1, 2, 3, 4 | Above | 1, 2, 3 | Less";
+
+#[test]
+fn orders_cuts(rt: HostRuntime) -> Result<(), Fail> {
+    for line in ORDERED_CUTS.split('\n') {
+        let order = order_cuts(&lent_cut(line, 1), &lent_cut(line, 3));
+        let found = format!(in rt.alloc(); "{order:?}")?;
+        assert_eq!(rt; found.as_str(), cell(line, 5), "{line}");
+    }
+    Ok(())
+}
+
+/// The cut whose side stands in this cell of a line, and its tuple in the next.
+fn lent_cut(line: &str, number: usize) -> CutRef<'_> {
+    let side = match cell(line, number) {
+        "Below" => Side::Below,
+        _ => Side::Above,
+    };
+    CutRef {
+        tuple: tuple(cell(line, number.saturating_add(1))),
+        side,
+    }
+}
+
+/// Cuts: name, a side and a tuple, and the tuple of the canonical form.
+const FORMS: &str = "\
+above keeps NULLs | Above | 1, NULL, NULL | 1, NULL, NULL
+below drops a NULL | Below | 1, NULL | 1
+below drops all at the end | Below | 1, NULL, 'a, NULL | 1, NULL, 'a
+below NULL is below all | Below | NULL |
+below keeps a NULL in front | Below | NULL, 2 | NULL, 2
+below nothing | Below | |";
+
+#[test]
+fn writes_canonical_forms(rt: HostRuntime) -> Result<(), Fail> {
+    for line in FORMS.split('\n') {
+        let lent = lent_cut(line, 1);
+        let form = held_cut(rt.alloc(), &lent)?.canonical();
+        let expected = CutRef {
+            tuple: tuple(cell(line, 3)),
+            side: lent.side,
+        };
+        assert_eq!(rt; form.tuple.len(), expected.tuple.len(), "{line}");
+        let order = order_cuts(&form.view(), &expected);
+        assert_eq!(rt; order, Ordering::Equal, "{line}");
+    }
+    Ok(())
+}
+
+/// A copy of a cut that is lent.
+fn held_cut(alloc: Global, cut: &CutRef<'_>) -> Result<Cut, OutOfMemory> {
+    let mut tuple = KeyTuple::new(alloc);
+    for index in 0..cut.tuple.len() {
+        let value = held_value(alloc, cut.tuple.get(index))?;
+        if tuple.len() < 4 {
+            tuple.push(value)?;
+        }
+    }
+    Ok(Cut {
+        tuple,
+        side: cut.side,
+    })
+}
+
+fn held_value(alloc: Global, value: ValueRef<'_>) -> Result<Value, OutOfMemory> {
+    Ok(match value {
+        ValueRef::Null => Value::Null,
+        ValueRef::Int(number) => Value::Int(number),
+        ValueRef::Big(number) => Value::Big(number),
+        ValueRef::Text(text) => Value::Text(Text::from_str(alloc, text)?),
+    })
+}
+
+#[test]
+fn copies_a_range(rt: HostRuntime) -> Result<(), Fail> {
+    let range = KeyRange {
+        from: Cut {
+            tuple: owned(rt.alloc())?,
+            side: Side::Below,
+        },
+        to: Cut {
+            tuple: owned(rt.alloc())?,
+            side: Side::Above,
+        },
+    };
+    let copy = range.copy(rt.alloc())?.canonical();
+    assert_eq!(rt; copy.from.side, Side::Below);
+    assert_eq!(rt; copy.to.side, Side::Above);
+    let order = order_cuts(&copy.from.view(), &range.from.view());
+    assert_eq!(rt; order, Ordering::Equal);
+    let order = order_cuts(&copy.to.view(), &range.to.view());
+    assert_eq!(rt; order, Ordering::Equal);
+    let form = range.canonical();
+    assert_eq!(rt; form.from.tuple.len(), 4);
+    Ok(())
+}

@@ -1,0 +1,5 @@
+mod CutLemmas
+mod PutLemmas
+mod Merging
+mod Meets
+mod Gathering
