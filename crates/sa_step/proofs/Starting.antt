@@ -16,7 +16,7 @@ use Rattle.sa_worker.specs.View.{View, first_view, aimed}
 use Rattle.sa_worker.specs.Holds.{IsGiven}
 use Rattle.sa_worker.specs.Keeps.{Suits}
 use Rattle.sa_step.specs.Sessions.{MayStart, AreSound, AreRunning, first_in, first_views, view_in}
-use Rattle.sa_step.specs.inner.Starts.{share_of, share_in, shares_for, desk_in, desks_of}
+use Rattle.sa_step.specs.Starts.{share_of, share_in, shares_for, desk_in, desks_of}
 use Rattle.sa_step.proofs.Driven.{AreWorking-same}
 use Rattle.sa_worker.proofs.working.All.{AreWorking-first}
 

@@ -1,4 +1,5 @@
 pub mod Sessions
+pub mod Starts
 pub mod Remaining
 pub mod Turns
 pub mod Schedule

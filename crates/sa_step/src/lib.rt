@@ -8,4 +8,5 @@ mod starts;
 mod step;
 
 pub use sessions::Sessions;
+pub use starts::new_desks;
 pub use step::step_sessions;

@@ -4,7 +4,7 @@ ghost use Rattle.std.specs.Prelude.{◌≡◌, ◌+◌, ◌*◌, ◌<◌, ◌≤
 ghost use Rattle.std.specs.Arc.{arc_value};
 ghost use Rattle.sa_desk.specs.New.{AreNew};
 ghost use Rattle.sa_step.specs.Sessions.{MayStart, first_views};
-ghost use Rattle.sa_step.specs.inner.Starts.{desks_of, share_of, shares_for};
+ghost use Rattle.sa_step.specs.Starts.{desks_of, share_of, shares_for};
 
 use sa_desk::Desk;
 use sa_table::Tables;
@@ -14,8 +14,8 @@ use std::alloc::Global;
 use std::collections::VecDeque;
 use std::sync::Arc;
 
-/// A desk for each session.
-pub(crate) fn new_desks(
+/// A new desk for each session, numbered 1, 2 and so on.
+pub fn new_desks(
     alloc: Global,
     statements: &[Texts],
     quantum: u32,

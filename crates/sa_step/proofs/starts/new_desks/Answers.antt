@@ -2,7 +2,7 @@ use Rattle.std.proofs.Common.{◌∙◌, ◌+◌, sym, subst, ap, All}
 use Rattle.std.proofs.lemmas.List.Elements.{All-push}
 use Rattle.sa_desk.specs.Contents.{IsSound}
 use Rattle.sa_desk.specs.New.{MayMake, AreNew, new_desk}
-use Rattle.sa_step.specs.inner.Starts.{desk_in}
+use Rattle.sa_step.specs.Starts.{desk_in}
 use Rattle.sa_step.proofs.StartLemmas.{one_more, all_made}
 use Rattle.sa_step.proofs.Starting.{may_make, new_are_new}
 use Rattle.sa_step.proofs.starts.new_desks.Goals as goal

@@ -1,7 +1,7 @@
 use Rattle.std.proofs.Common.{◌≡◌, map, All}
 use Rattle.std.specs.List.{range_with_len}
 use Rattle.sa_desk.specs.Contents.{IsSound}
-use Rattle.sa_step.specs.inner.Starts.{desk_in}
+use Rattle.sa_step.specs.Starts.{desk_in}
 use Rattle.sa_step.proofs.starts.new_desks.Given as goal
 
 abbrev pub invariant-loop-place : goal.invariant-loop-place

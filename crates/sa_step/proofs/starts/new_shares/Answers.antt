@@ -1,5 +1,5 @@
 use Rattle.std.proofs.Common.{◌∙◌}
-use Rattle.sa_step.specs.inner.Starts.{share_in}
+use Rattle.sa_step.specs.Starts.{share_in}
 use Rattle.sa_step.proofs.StartLemmas.{one_more}
 use Rattle.sa_step.proofs.Starting.{share_is}
 use Rattle.sa_step.proofs.starts.new_shares.Goals as goal

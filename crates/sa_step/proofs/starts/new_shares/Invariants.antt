@@ -1,6 +1,6 @@
 use Rattle.std.proofs.Common.{◌≡◌, map}
 use Rattle.std.specs.List.{range_with_len}
-use Rattle.sa_step.specs.inner.Starts.{share_in}
+use Rattle.sa_step.specs.Starts.{share_in}
 use Rattle.sa_step.proofs.starts.new_shares.Given as goal
 
 abbrev pub invariant-loop-place : goal.invariant-loop-place

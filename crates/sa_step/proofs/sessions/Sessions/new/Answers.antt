@@ -2,7 +2,7 @@ use Rattle.std.proofs.Common.{◌∙◌, ap}
 use Rattle.std.specs.Arc.{arc_value}
 use Rattle.sa_desk.specs.Legal.{Sessions}
 use Rattle.sa_desk.specs.Plain.{Plain}
-use Rattle.sa_step.specs.inner.Starts.{desks_of}
+use Rattle.sa_step.specs.Starts.{desks_of}
 use Rattle.sa_step.proofs.Starting.{started, starts_empty}
 use Rattle.sa_step.proofs.sessions.Sessions.new.Goals as goal
 

@@ -1,4 +1,4 @@
--- The desks that the sessions of a script begin with.
+-- The desks that the sessions of a script begin with; cited by the call that makes them.
 use Rattle.std.specs.Prelude.{ℕ, ◌+◌, ◌-◌, ◌*◌, ◌==◌, Bool, List, [], length, map, slice_index_or, if◌then◌else◌}
 use Rattle.std.specs.List.{range_with_len}
 use Rattle.sa_desk.specs.Contents.{Contents}
