@@ -2,3 +2,11 @@
 //!
 //! The program's `run` runs a script so.
 #![tactic(auto)]
+
+mod member;
+mod run;
+mod script;
+mod session;
+mod turn;
+
+pub use run::run_sessions;
