@@ -5,3 +5,5 @@ pub mod Working
 pub mod Stays
 pub mod Begins
 pub mod Legal
+pub mod Turned
+pub mod Ended
