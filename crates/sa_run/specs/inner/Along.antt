@@ -1,5 +1,5 @@
 -- How a session stands between two of its turns, with a worker that calls a board's desks.
-use Rattle.std.specs.Prelude.{◌≡◌, ◌≤◌, length}
+use Rattle.std.specs.Prelude.{◌≡◌, ◌≤◌, length, None}
 use Rattle.sa_desk.specs.Legal.{Sessions, given_of}
 use Rattle.sa_desk.specs.program.Prepares.{Answers}
 use Rattle.sa_board.specs.Board.{BoardState}
@@ -14,6 +14,7 @@ pub record IsAlong (gives : Answers) (script : Sessions) (board : BoardState) (p
     (view : View) : Type 0 where
   pub table : pass.table ≡ board.table
   pub idle : pass.out ≡ 0
+  pub home : pass.desk ≡ None
   pub least : 1 ≤ pass.session
   pub most : pass.session ≤ length script.texts
   pub sessions : length board.founded ≡ length script.texts

@@ -1,0 +1,9 @@
+pub mod Still
+pub mod Placed
+pub mod Growing
+pub mod Working
+pub mod Stays
+pub mod Begins
+pub mod Legal
+pub mod Turned
+pub mod Ended
