@@ -7,3 +7,5 @@ pub mod Begins
 pub mod Legal
 pub mod Turned
 pub mod Ended
+pub mod Making
+pub mod Running

@@ -3,6 +3,7 @@
 //! The program's `run` runs a script so.
 #![tactic(auto)]
 
+mod crossing;
 mod member;
 mod run;
 mod script;

@@ -5,9 +5,10 @@ ghost use Rattle.sa_board.specs.Board.{new_passes};
 ghost use Rattle.sa_step.specs.Sessions.{MayStart, AreSound};
 ghost use Rattle.sa_run.specs.inner.Members.{MayRun, HasRun, members_of};
 
+use crate::crossing::{members_send, scripts_share};
 use crate::member::{Member, run_member};
 use crate::script::Script;
-use sa_board::{Board, Pass};
+use sa_board::{Board, Pass, boards_share, passes_send};
 use sa_desk::Journals;
 use sa_plan::Preparer;
 use sa_source::Pause;
@@ -86,17 +87,17 @@ fn new_members(
             unreachable!()
         };
         let session = members.len() as u32 + 1;
-        members.push_reserved(Member {
+        members.push(Member {
             session,
             pass,
             statements: Some(texts),
             ended: false,
-        });
+        })?;
     }
     Ok(members)
 }
 
-/// Runs each member, all at once.
+/// Runs each member, on a thread of its own where one can be made.
 fn run_members<R: Threads + Wait + Sync, P: Preparer + Sync, Q: Pause + Sync>(
     rt: &R,
     prepare: &P,
@@ -112,6 +113,10 @@ fn run_members<R: Threads + Wait + Sync, P: Preparer + Sync, Q: Pause + Sync>(
         HasRun (P.answers prepare.now) script.now board.now
         (slice_index_or members.old place none) (slice_index_or members.new place none) }
 {
+    passes_send();
+    members_send();
+    scripts_share();
+    boards_share();
     let count = members.len();
     let run = |_place: usize, member: &mut Member|
         requires { MayRun (P.answers prepare.now) script.now board.now member.now }
@@ -132,7 +137,7 @@ fn ended_passes(alloc: Global, members: Vec<Member>) -> Result<Vec<Pass>, OutOfM
         if !ended {
             return Err(OutOfMemory);
         }
-        passes.push_reserved(pass);
+        passes.push(pass)?;
     }
     Ok(passes)
 }

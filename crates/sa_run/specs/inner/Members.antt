@@ -24,7 +24,7 @@ member_in board texts session = record {
 abbrev pub members_of : BoardState → List (List (List ℕ)) → List Member
 members_of board texts = map (member_in board texts) (range_with_len 1 (length texts))
 
--- The session may begin: its pass is new, as is the board, and it has its statements.
+-- The session may begin: the board and its pass are new, and it has its statements.
 pub record MayRun (gives : Answers) (script : Sessions) (board : BoardState)
     (member : Member) : Type 0 where
   pub start : MayStart script
@@ -32,8 +32,11 @@ pub record MayRun (gives : Answers) (script : Sessions) (board : BoardState)
   pub founded : board.founded ≡ desks_of script.texts script.quantum script.turns
   pub least : 1 ≤ member.session
   pub most : member.session ≤ length script.texts
-  pub member_is : member ≡ member_in board script.texts member.session
+  pub pass_is : member.pass ≡ new_pass board member.session
   pub first : IsFirst (world_of (new_pass board member.session))
+  pub statements_are : member.statements
+      ≡ Some (slice_index_or script.texts (member.session - 1) [])
+  pub waits : member.ended ≡ false
 
 -- The pass is of the same session. Where it has ended, the session has closed.
 pub record HasRun (gives : Answers) (script : Sessions) (board : BoardState)
