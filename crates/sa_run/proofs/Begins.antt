@@ -1,7 +1,6 @@
 -- A session that has a new pass is along before its first turn.
-use Rattle.std.proofs.Common.{◌≡◌, ℕ, ◌+◌, ◌-◌, ◌*◌, ◌≤◌, ◌==◌, inl, inr, List, [], length, slice_index, slice_index_or, refl, sym, subst, ap, ◌∙◌, arith}
+use Rattle.std.proofs.Common.{◌≡◌, ℕ, ◌+◌, ◌-◌, ◌*◌, ◌≤◌, inl, inr, List, [], length, slice_index, slice_index_or, refl, sym, subst, ap, ◌∙◌, arith}
 use Rattle.std.proofs.lemmas.Bool.{cases_eq, eq-eqb, ne_eqb}
-use Rattle.std.specs.List.{range_with_len}
 use Rattle.std.proofs.lemmas.List.FromFn.{get_or-map-range_with_len, length-map-range_with_len}
 use Rattle.sa_desk.specs.Contents.{Contents}
 use Rattle.sa_desk.specs.Legal.{Sessions, given_of}
@@ -10,7 +9,7 @@ use Rattle.sa_desk.specs.World.{IsFirst}
 use Rattle.sa_desk.specs.program.Prepares.{Answers}
 use Rattle.sa_board.specs.View.{desk_in}
 use Rattle.sa_board.specs.Board.{BoardState, new_pass}
-use Rattle.sa_board.specs.Pass.{PassState, met_at, known_desk, world_of}
+use Rattle.sa_board.specs.Pass.{PassState, known_desk, world_of}
 use Rattle.sa_board.proofs.Calls.{known-else}
 use Rattle.sa_worker.specs.View.{first_view, aimed}
 use Rattle.sa_worker.specs.Holds.{IsGiven}

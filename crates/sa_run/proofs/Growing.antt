@@ -1,5 +1,5 @@
 -- A session's entries stay those of its program so far where it sees more of the script's desks.
-use Rattle.std.proofs.Common.{◌≡◌, ℕ, ◌+◌, ◌<◌, List, [], ◌∷◌, ◌++◌, All, inl, inr, sym, subst}
+use Rattle.std.proofs.Common.{ℕ, ◌+◌, List, [], ◌∷◌, ◌++◌, All, inl, inr, sym, subst}
 use Rattle.std.proofs.lemmas.List.Elements.{All-nil, All-cons, All-append, All-same}
 use Rattle.sa_desk.specs.declared.entry.Entry.{Entry}
 use Rattle.sa_desk.specs.declared.entry.Event.{Event}
@@ -7,7 +7,7 @@ use Rattle.sa_desk.specs.declared.entry.Event.TheVariants.{End, Gone}
 use Rattle.sa_desk.specs.declared.outcome.Outcome.TheVariants.{Shown}
 use Rattle.sa_desk.specs.World.{Begins}
 use Rattle.sa_desk.specs.law.Answered.{IsAnswered}
-use Rattle.sa_desk.specs.program.Course.{Given, Answer, text_of, Settings, at_first, course_of}
+use Rattle.sa_desk.specs.program.Course.{Given, Answer, text_of, at_first, course_of}
 use Rattle.sa_desk.specs.program.Between as due
 use Rattle.sa_desk.specs.program.SoFar.{gone, closed, IsGone, Tail, terms_of, IsTold}
 use Rattle.sa_desk.proofs.laws.Answered.{IsAnswered-grows}

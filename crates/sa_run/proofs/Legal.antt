@@ -1,25 +1,24 @@
 -- Where all sessions have ended the histories of their desks are legal journals.
-use Rattle.std.proofs.Common.{◌≡◌, ℕ, ◌+◌, ◌-◌, ◌<◌, ◌≤◌, List, [], ◌++◌, length, map, All, slice_index_or, sym, subst, subst₂, ap, ◌∙◌, arith, append-nil}
+use Rattle.std.proofs.Common.{◌≡◌, ℕ, ◌+◌, ◌-◌, ◌≤◌, List, ◌++◌, length, map, All, slice_index_or, sym, subst, subst₂, ap, ◌∙◌, arith, append-nil}
 use Rattle.std.specs.List.{range_with_len}
 use Rattle.std.proofs.lemmas.List.{length-map, get_or-map}
 use Rattle.std.proofs.lemmas.List.Elements.{All-weaker}
 use Rattle.std.proofs.lemmas.List.FromFn.{length-range_with_len, get_or-range_with_len}
 use Rattle.sa_desk.specs.declared.entry.Entry.{Entry}
 use Rattle.sa_desk.specs.Contents.{Contents}
-use Rattle.sa_desk.specs.Legal.{Sessions, given_of, journal_at, IsMade, HasProgram, IsLegal}
+use Rattle.sa_desk.specs.Legal.{Sessions, given_of, journal_at, HasProgram, IsLegal}
 use Rattle.sa_desk.specs.Runs.{IsDeskRun, IsEntryOf}
 use Rattle.sa_desk.specs.World.{made_by, standing_on, Begins}
 use Rattle.sa_desk.specs.program.Course.{Given}
 use Rattle.sa_desk.specs.program.Prepares.{Answers, AreAnswers}
-use Rattle.sa_desk.specs.program.SoFar.{closed, terms_of, IsSoFar, IsProgram}
+use Rattle.sa_desk.specs.program.SoFar.{closed, IsSoFar, IsProgram}
 use Rattle.sa_board.specs.View.{desk_in}
 use Rattle.sa_board.specs.Board.{BoardState, new_pass}
-use Rattle.sa_board.specs.Pass.{PassState, met_at, new_entries, known_desk, world_of}
+use Rattle.sa_board.specs.Pass.{PassState, met_at, world_of}
 use Rattle.sa_board.specs.History.{IsHistory, AreHistories}
 use Rattle.sa_board.proofs.Calls.{known-else, own-mine, own-seen}
 use Rattle.sa_board.proofs.Still.{none_new}
 use Rattle.sa_worker.specs.View.{done, View}
-use Rattle.sa_worker.specs.Keeps.{IsSession}
 use Rattle.sa_worker.specs.Follows.{FollowsAt}
 use Rattle.sa_worker.specs.Working.{IsWorking}
 use Rattle.sa_worker.proofs.follows.SoFar.{Follows-so_far}

@@ -1,5 +1,5 @@
 -- A worker still knows what it has to where its session may have seen more of a desk.
-use Rattle.std.proofs.Common.{◌≡◌, ℕ, ◌+◌, ◌-◌, ◌<◌, ◌≤◌, true, List, length, slice_index, sym, subst, ap, ◌∙◌}
+use Rattle.std.proofs.Common.{◌≡◌, ℕ, ◌+◌, ◌-◌, ◌<◌, ◌≤◌, true, length, slice_index, sym, subst, ap, ◌∙◌}
 use Rattle.std.specs.Prelude.{None, IfSome}
 use Rattle.sa_plan.specs.declared.plan.Plan.{Plan}
 use Rattle.sa_meaning.specs.Progress.{Progress}
