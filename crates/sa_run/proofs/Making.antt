@@ -1,6 +1,6 @@
 -- The members of a script, one after another.
-use Rattle.std.proofs.Common.{◌≡◌, ℕ, ◌+◌, ◌-◌, List, [], ◌∷◌, map, drop, slice_index_or, length, Some, false, refl, sym, ap, ◌∙◌, arith}
-use Rattle.std.proofs.lemmas.List.{get_or-drop}
+use Rattle.std.proofs.Common.{◌≡◌, ℕ, ◌+◌, ◌-◌, List, [], ◌∷◌, ◌++◌, map, drop, slice_index_or, length, Some, false, refl, sym, ap, ◌∙◌, arith, append_assoc}
+use Rattle.std.proofs.lemmas.List.{get_or-drop, map-append}
 use Rattle.std.proofs.lemmas.List.FromFn.{get_or-map-range_with_len, length-map-range_with_len}
 use Rattle.std.specs.List.{range_with_len}
 use Rattle.sa_board.specs.Board.{BoardState, new_pass, new_passes}
@@ -29,3 +29,12 @@ member_next board texts count session pass passes statements rest here left numb
     let statements_are : slice_index_or texts (count + 1 - 1) [] ≡ statements =
     ap (λ at. slice_index_or texts at []) (let same : count + 1 - 1 ≡ count = omega arith in same) ∙ at_left texts rest statements [] count left in
     rw (number, pass_is, statements_are) refl
+
+-- One more pass is there, where one more member has come.
+pub pass_pushed : (passes pushed : List PassState) (members : List Member) (member : Member) → pushed ≡ passes ++ member.pass ∷ [] → passes ≡ map (λ (member : Member). member.pass) members
+    → pushed ≡ map (λ (member : Member). member.pass) (members ++ member ∷ [])
+pass_pushed passes pushed members member is are =
+    is ∙ ap (λ (passes : List PassState). passes ++ member.pass ∷ []) are ∙ sym (map-append (λ (member : Member). member.pass) members (member ∷ []))
+
+pub member_come : (members rest more whole : List Member) (member : Member) → rest ≡ member ∷ more → members ++ rest ≡ whole → members ++ member ∷ [] ++ more ≡ whole
+member_come members rest more whole member is all = append_assoc members (member ∷ []) more ∙ ap (λ (rest : List Member). members ++ rest) (sym is) ∙ all

@@ -1,9 +1,9 @@
 -- What the threads are given, and what their sessions come to in the end.
-use Rattle.std.proofs.Common.{◌≡◌, ℕ, ◌+◌, ◌-◌, ◌<◌, ◌≤◌, List, [], length, map, All, slice_index_or, IsTrue, refl, sym, subst, ap, ◌∙◌, arith}
+use Rattle.std.proofs.Common.{◌≡◌, ℕ, ◌+◌, ◌-◌, ◌<◌, ◌≤◌, List, ◌++◌, length, map, take, All, slice_index_or, IsTrue, refl, sym, subst, ap, ◌∙◌, arith}
 use Rattle.std.specs.List.{range_with_len}
-use Rattle.std.proofs.lemmas.List.{get_or-map, length-map, ext_get_or}
+use Rattle.std.proofs.lemmas.List.{get_or-map, length-map, ext_get_or, take-append-le, take_all}
 use Rattle.std.proofs.lemmas.List.FromFn.{get_or-map-range_with_len, length-map-range_with_len, get_or-range_with_len, length-range_with_len}
-use Rattle.sa_desk.specs.Legal.{Sessions, IsLegal}
+use Rattle.sa_desk.specs.Legal.{Sessions}
 use Rattle.sa_desk.specs.World.{IsFirst}
 use Rattle.sa_desk.specs.program.Prepares.{Answers}
 use Rattle.sa_board.specs.Board.{BoardState, new_pass, new_passes}
@@ -15,16 +15,9 @@ use Rattle.sa_run.specs.inner.Along.{HasEnded}
 use Rattle.sa_run.specs.inner.Members.{member_in, members_of, MayRun, HasRun}
 use Rattle.sa_run.proofs.Ended.{new_is_first}
 
--- Where there is no session, no journal is legal.
-pub none_are_legal : (gives : Answers) (script : Sessions) → script.texts ≡ [] → IsLegal gives script []
-none_are_legal gives script none =
-    let count : length script.texts ≡ 0 = ap length none in
-    record {
-      one_each = sym count;
-      entries = λ desk low high. absurd (omega (arith, low, high));
-      desks = λ desk low high. absurd (omega (arith, low, high));
-      programs = λ session low high. absurd (omega (arith, low, high, count));
-    }
+-- What a slice of a whole list has written is the list.
+pub written : {X : Type 0} (count : ℕ) (items more : List X) → count ≡ length items → take count (items ++ more) ≡ items
+written count items more is = take-append-le count items more (omega (arith, is)) ∙ take_all count items (omega (arith, is))
 
 module _ (gives : Answers) (script : Sessions) (board : BoardState) (founded : board.founded ≡ desks_of script.texts script.quantum script.turns) where
   abbrev total : ℕ

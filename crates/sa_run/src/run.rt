@@ -5,7 +5,7 @@ ghost use Rattle.sa_board.specs.Board.{new_passes};
 ghost use Rattle.sa_step.specs.Sessions.{MayStart, AreSound};
 ghost use Rattle.sa_run.specs.inner.Members.{MayRun, HasRun, members_of};
 
-use crate::crossing::{members_send, scripts_share};
+use crate::crossing::{members_send, scripts_share, statements_send};
 use crate::member::{Member, run_member};
 use crate::script::Script;
 use sa_board::{Board, Pass, boards_share, passes_send};
@@ -114,6 +114,7 @@ fn run_members<R: Threads + Wait + Sync, P: Preparer + Sync, Q: Pause + Sync>(
         (slice_index_or members.old place none) (slice_index_or members.new place none) }
 {
     passes_send();
+    statements_send();
     members_send();
     scripts_share();
     boards_share();
