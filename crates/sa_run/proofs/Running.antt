@@ -1,5 +1,5 @@
 -- What the threads are given, and what their sessions come to in the end.
-use Rattle.std.proofs.Common.{◌≡◌, ℕ, ◌+◌, ◌-◌, ◌<◌, ◌≤◌, List, ◌++◌, length, map, take, All, slice_index_or, IsTrue, refl, sym, subst, ap, ◌∙◌, arith}
+use Rattle.std.proofs.Common.{◌≡◌, ℕ, ◌+◌, ◌<◌, List, ◌++◌, length, map, take, All, slice_index_or, IsTrue, refl, sym, subst, ap, ◌∙◌, arith}
 use Rattle.std.specs.List.{range_with_len}
 use Rattle.std.proofs.lemmas.List.{get_or-map, length-map, ext_get_or, take-append-le, take_all}
 use Rattle.std.proofs.lemmas.List.FromFn.{get_or-map-range_with_len, length-map-range_with_len, get_or-range_with_len, length-range_with_len}
@@ -38,20 +38,20 @@ module _ (gives : Answers) (script : Sessions) (board : BoardState) (founded : b
       → (members : List Member) → members ≡ members_of board script.texts → All (MayRun gives script board) members
   members_may start sound passes are first members is =
       subst (All (MayRun gives script board)) (sym is) (λ place none there.
-          let count = members_count in
-          let below : place < total = omega (arith, there, count) in
-          subst (MayRun gives script board) (sym (member_at place none below))
-          (record {
-            start = start;
-            sound = sound;
-            founded = founded;
-            least = omega arith;
-            most = omega (arith, below);
-            pass_is = refl;
-            first = new_is_first script board founded passes are first (place + 1) (omega arith) (omega (arith, below));
-            statements_are = refl;
-            waits = refl;
-          }))
+      let count = members_count in
+      let below : place < total = omega (arith, there, count) in
+      subst (MayRun gives script board) (sym (member_at place none below))
+      (record {
+        start = start;
+        sound = sound;
+        founded = founded;
+        least = omega arith;
+        most = omega (arith, below);
+        pass_is = refl;
+        first = new_is_first script board founded passes are first (place + 1) (omega arith) (omega (arith, below));
+        statements_are = refl;
+        waits = refl;
+      }))
 
   module _ (before after : List Member) (are : before ≡ members_of board script.texts) (same : length after ≡ length before)
       (each : (place : ℕ) (none : Member) → place < length before → HasRun gives script board (slice_index_or before place none) (slice_index_or after place none))
@@ -81,10 +81,10 @@ module _ (gives : Answers) (script : Sessions) (board : BoardState) (founded : b
         let count = after_count in
         let here = length-map passes (λ (pass : PassState). pass.session) in
         ext_get_or 0 (map (λ (pass : PassState). pass.session) passes) (range_with_len 1 total) (here ∙ many ∙ count ∙ sym (length-range_with_len 1 total)) (λ place there.
-            let below : place < total = omega (arith, there, here, many, count) in
-            get_or-map (λ (pass : PassState). pass.session) passes place (new_pass board 0) 0 (omega (arith, below, many, count))
-            ∙ ap (λ (pass : PassState). pass.session) (pass_at place (new_pass board 0) below) ∙ (run_at place below).session
-            ∙ (let next : place + 1 ≡ 1 + place = omega arith in next) ∙ sym (get_or-range_with_len 1 total place 0 below))
+        let below : place < total = omega (arith, there, here, many, count) in
+        get_or-map (λ (pass : PassState). pass.session) passes place (new_pass board 0) 0 (omega (arith, below, many, count))
+        ∙ ap (λ (pass : PassState). pass.session) (pass_at place (new_pass board 0) below) ∙ (run_at place below).session
+        ∙ (let next : place + 1 ≡ 1 + place = omega arith in next) ∙ sym (get_or-range_with_len 1 total place 0 below))
 
     -- Where all members have ended, so have the sessions of their passes.
     pub passes_ended : All (λ (member : Member). IsTrue member.ended) after → All (HasEnded gives script board) passes

@@ -38,6 +38,14 @@ pub(crate) fn run_member<R: Wait, P: Preparer, Q: Pause>(
     let Ok(mut worker) = script.worker(member.session, statements) else {
         return;
     };
-    run_session(rt, prepare, pause, script, board, &mut worker, &mut member.pass);
+    run_session(
+        rt,
+        prepare,
+        pause,
+        script,
+        board,
+        &mut worker,
+        &mut member.pass,
+    );
     member.ended = true;
 }

@@ -1,11 +1,11 @@
 -- What the threads that run a script's sessions are given, and what they leave.
-use Rattle.std.specs.Prelude.{◌≡◌, ℕ, ◌+◌, ◌-◌, ◌≤◌, List, [], length, map, slice_index_or, Some, false, IsTrue}
+use Rattle.std.specs.Prelude.{◌≡◌, ℕ, ◌-◌, ◌≤◌, List, [], length, map, slice_index_or, Some, false, IsTrue}
 use Rattle.std.specs.List.{range_with_len}
 use Rattle.sa_desk.specs.Legal.{Sessions}
 use Rattle.sa_desk.specs.World.{IsFirst}
 use Rattle.sa_desk.specs.program.Prepares.{Answers}
 use Rattle.sa_board.specs.Board.{BoardState, new_pass}
-use Rattle.sa_board.specs.Pass.{PassState, world_of}
+use Rattle.sa_board.specs.Pass.{world_of}
 use Rattle.sa_step.specs.Sessions.{MayStart, AreSound}
 use Rattle.sa_step.specs.Starts.{desks_of}
 use Rattle.sa_run.specs.declared.member.Member.{Member}

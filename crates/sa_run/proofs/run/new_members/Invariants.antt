@@ -1,4 +1,4 @@
-use Rattle.std.proofs.Common.{◌≡◌, ◌≤◌, ◌++◌, map, length, drop}
+use Rattle.std.proofs.Common.{◌≡◌, ◌≤◌, map, length, drop}
 use Rattle.std.specs.List.{range_with_len}
 use Rattle.sa_run.specs.inner.Members.{member_in}
 use Rattle.sa_run.proofs.run.new_members.Given as goal
