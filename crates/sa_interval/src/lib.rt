@@ -11,3 +11,6 @@ pub use list::RangeList;
 pub use meeting::meet;
 pub use pieces::canonical;
 pub use uniting::unite;
+
+#[cfg(test)]
+mod tests;
