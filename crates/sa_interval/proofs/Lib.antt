@@ -3,3 +3,4 @@ mod PutLemmas
 mod Merging
 mod Meets
 mod Gathering
+mod Rising

@@ -155,7 +155,8 @@ fn may_follow(alloc: Global, pieces: &[KeyRange], index: usize) -> Result<bool, 
     if index == 0 {
         return Ok(true);
     }
-    isnt_behind(alloc, &pieces[index - 1].to, &piece.from)
+    let last = &pieces[index - 1];
+    isnt_behind(alloc, &last.to, &piece.from)
 }
 
 /// Whether a cut in canonical form doesn't come behind another.
