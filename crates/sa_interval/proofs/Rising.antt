@@ -1,5 +1,5 @@
 -- Pieces that rise, one after another.
-use Rattle.std.proofs.Common.{◌≡◌, ◌≢◌, ℕ, ◌+◌, ◌-◌, ◌<◌, ◌≤◌, false, List, [], ◌∷◌, ◌++◌, length, take, get_or, sym, ◌∙◌, ap, subst, ⊎_elim, arith}
+use Rattle.std.proofs.Common.{◌≡◌, ◌≢◌, ℕ, ◌+◌, ◌<◌, false, List, [], ◌∷◌, ◌++◌, length, take, get_or, sym, ◌∙◌, ap, subst, ⊎_elim, arith}
 use Rattle.std.proofs.lemmas.Bool.{cases_lt}
 use Rattle.std.proofs.lemmas.List.{get_or-take, get_or_default, length-take-le, take_more}
 use Rattle.std.proofs.lemmas.List.Elements.{All-more}
@@ -37,12 +37,12 @@ all_end_by : IsTotal → (front : List KeyRange) (n : ℕ) (last piece : KeyRang
 all_end_by total front n last piece are long is behind k d here =
     ⊎_elim
     (λ before. ends_by total (get_or front k d) last piece
-      (subst (λ other. EndsBy (get_or front k d) other) (is d) (are.disjoint k n d before (omega arith)))
-      (subst IsPiece (is d) (are.each n d (omega arith)))
-      behind)
+    (subst (λ other. EndsBy (get_or front k d) other) (is d) (are.disjoint k n d before (omega arith)))
+    (subst IsPiece (is d) (are.each n d (omega arith)))
+    behind)
     (λ not_before.
-      let same : k ≡ n = omega arith in
-      subst (λ other. EndsBy other piece) (sym (ap (λ i. get_or front i d) same ∙ is d)) behind)
+    let same : k ≡ n = omega arith in
+    subst (λ other. EndsBy other piece) (sym (ap (λ i. get_or front i d) same ∙ is d)) behind)
     (cases_lt k n)
 
 -- One piece more, which the last one before doesn't end behind.
