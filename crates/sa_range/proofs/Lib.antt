@@ -1,0 +1,4 @@
+pub mod Levels
+pub mod Neighbours
+pub mod Putting
+pub mod Rising
