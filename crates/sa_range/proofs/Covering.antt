@@ -96,7 +96,8 @@ module _ (total : IsTotal) (choice : Choice) (condition : Cond) (table : ℕ) (t
   covers chosen [] rest fits = refl
   covers chosen (column ∷ columns) rest fits =
       any_kept tuple follow keep (pieces_of (constants literals))
-      ∙ find total (cell column) literals (λ piece. keep piece && covered tuple (map (range_of []) (continued follow piece))) found (constants literals) (constants_ascend total literals) (all_among total (cell column) literals)
+      ∙ find total (cell column) literals (λ piece. keep piece && covered tuple (map (range_of []) (continued follow piece)))
+      (found (λ value suits. covers (chosen ++ (column, Point value) ∷ []) columns rest (fits_more chosen column (Point value) fits suits))) (constants literals) (constants_ascend total literals) (all_among total (cell column) literals)
     where
       tuple : List Value
       tuple = cell column ∷ map cell columns ++ rest
@@ -113,13 +114,19 @@ module _ (total : IsTotal) (choice : Choice) (condition : Cond) (table : ℕ) (t
       kept : (piece : Piece) → Suits (cell column) piece literals → keep piece ≡ true
       kept piece suits = ap is_true (stays_true choice table (chosen ++ (column, piece) ∷ []) condition (fits_more chosen column piece fits suits) told)
 
-      goes_on : (piece : Piece) → Stands (cell column) piece → Suits (cell column) piece literals → covered tuple (map (range_of []) (continued follow piece)) ≡ true
-      goes_on (Point value) stands suits =
+      above : (lower : Value) → order_of lower (cell column) ≡ Less → order_of (cell column) lower ≡ Greater
+      above lower less = total.antisymm (cell column) lower ∙ ap ordering_reverse less
+
+      goes_on : ((value : Value) → Suits (cell column) (Point value) literals → covered (map cell columns ++ rest) (map (range_of []) (follow value)) ≡ true)
+          → (piece : Piece) → Stands (cell column) piece → Suits (cell column) piece literals → covered tuple (map (range_of []) (continued follow piece)) ≡ true
+      goes_on more (Point value) stands suits =
           ap (covered tuple) (spans-Point value (follow value))
           ∙ covered_behind (cell column) value (map cell columns ++ rest) (map (range_of []) (follow value)) stands
-          ∙ covers (chosen ++ (column, Point value) ∷ []) columns rest (fits_more chosen column (Point value) fits suits)
-      goes_on (Gap lower None) stands suits = ?
-      goes_on (Gap lower (Some upper)) stands suits = ?
+          ∙ more value suits
+      goes_on more (Gap lower None) stands suits = ap (λ (order : Ordering). (not (is_before_side (ordering_then order Equal) Above) && true) || false) (above lower stands)
+      goes_on more (Gap lower (Some upper)) stands suits =
+          ap₂ (λ (order other : Ordering). (not (is_before_side (ordering_then order Equal) Above) && is_before_side (ordering_then other Equal) Below) || false) (above lower stands.0) stands.1
 
-      found : (piece : Piece) → Stands (cell column) piece → Suits (cell column) piece literals → (keep piece && covered tuple (map (range_of []) (continued follow piece))) ≡ true
-      found piece stands suits = both_true (keep piece) (covered tuple (map (range_of []) (continued follow piece))) (kept piece suits) (goes_on piece stands suits)
+      found : ((value : Value) → Suits (cell column) (Point value) literals → covered (map cell columns ++ rest) (map (range_of []) (follow value)) ≡ true)
+          → (piece : Piece) → Stands (cell column) piece → Suits (cell column) piece literals → (keep piece && covered tuple (map (range_of []) (continued follow piece))) ≡ true
+      found more piece stands suits = both_true (keep piece) (covered tuple (map (range_of []) (continued follow piece))) (kept piece suits) (goes_on more piece stands suits)

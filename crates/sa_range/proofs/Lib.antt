@@ -1,4 +1,10 @@
+pub mod Agreeing
+pub mod Covering
+pub mod Lawful
 pub mod Levels
 pub mod Neighbours
+pub mod Once
 pub mod Putting
 pub mod Rising
+pub mod Standing
+pub mod Within

@@ -1,11 +1,12 @@
 -- The ranges of all sequences rise, and are disjoint.
-use Rattle.std.proofs.Common.{◌≡◌, ◌≢◌, ℕ, Bool, true, false, cond, ⊤, List, [], ◌∷◌, ◌++◌, map, flat_map, Option, Some, None, refl, sym, ap, ap₂, ◌∙◌, subst}
+use Rattle.std.proofs.Common.{◌≡◌, ◌≢◌, ℕ, Bool, true, false, cond, List, [], ◌∷◌, ◌++◌, map, flat_map, Option, Some, None, refl, sym, ap, ap₂, ◌∙◌, subst}
+use Rattle.std.specs.Prelude.{⊤}
 use Rattle.std.specs.List.{filter}
 use Rattle.std.specs.Cmp.{IsTotalOrder}
 use Rattle.std.specs.Ordering.{is_gt, is_lt, is_eq, ordering_then, ordering_reverse}
 use Rattle.std.specs.declared.cmp.Ordering.{Ordering}
 use Rattle.std.specs.declared.cmp.Ordering.TheVariants.{Less, Equal, Greater}
-use Rattle.std.proofs.lemmas.Cmp.{tied_itself}
+use Rattle.std.proofs.lemmas.Cmp.{tied_itself, upto as upto_next}
 use Rattle.std.proofs.lemmas.List.{map-append}
 use Rattle.sa_value.specs.declared.value.Value.{Value}
 use Rattle.sa_value.specs.declared.value.Value.TheVariants.{Null, Int, Big, Text}
@@ -16,7 +17,7 @@ use Rattle.sa_key.specs.declared.cut.Side.TheVariants.{Below, Above}
 use Rattle.sa_key.specs.declared.range.KeyRange.{KeyRange}
 use Rattle.sa_key.specs.Range.{order_of_sides, order_of_ends, order_of_cuts, kept_before, without_last_nulls, canonical_tuple, canonical_cut}
 use Rattle.sa_key.proofs.RangeLemmas.{order_of_cuts-total}
-use Rattle.sa_interval.proofs.CutLemmas.{upto_self, upto_then}
+
 use Rattle.sa_cond.specs.declared.cond.Cond.{Cond}
 use Rattle.sa_range.specs.declared.line.Piece.{Piece}
 use Rattle.sa_range.specs.declared.line.Piece.TheVariants.{Point, Gap}
@@ -61,10 +62,10 @@ abbrev pub IsTotal : Type 0
 IsTotal = IsTotalOrder order_of
 
 pub upto : IsTotal → (x y z : Cut) → Upto x y → Upto y z → Upto x z
-upto total x y z first second = upto_then (order_of_cuts-total total) (canonical_cut x) (canonical_cut y) (canonical_cut z) first second
+upto total x y z first second = upto_next (order_of_cuts-total total) (canonical_cut x) (canonical_cut y) (canonical_cut z) first second
 
 pub upto_itself : IsTotal → (x : Cut) → Upto x x
-upto_itself total x = upto_self (order_of_cuts-total total) (canonical_cut x)
+upto_itself total x = ap is_gt (tied_itself (order_of_cuts-total total) (canonical_cut x))
 
 pub before_upto : (x y : Cut) → Before x y → Upto x y
 before_upto x y before = ap is_gt before

@@ -1,5 +1,5 @@
 -- In which piece of a line a cell lies, and that literals compare with the piece as with the cell.
-use Rattle.std.proofs.Common.{◌≡◌, ◌≢◌, ℕ, Bool, true, false, not, ◌||◌, cond, ⊤, List, [], ◌∷◌, ◌++◌, map, All, Option, Some, None, refl, sym, ap, ap₂, ◌∙◌, subst, inl, inr, ◌⊎◌}
+use Rattle.std.proofs.Common.{◌≡◌, ◌≢◌, ℕ, Bool, true, false, not, ◌||◌, cond, List, [], ◌∷◌, ◌++◌, map, All, Option, Some, None, refl, sym, ap, ap₂, ◌∙◌, subst, inl, inr, ◌⊎◌}
 use Rattle.std.specs.List.{list_any}
 use Rattle.std.specs.Cmp.{IsTotalOrder}
 use Rattle.std.specs.Ordering.{is_gt, is_eq, ordering_reverse}
@@ -136,16 +136,19 @@ module _ (total : IsTotal) (cell : Value) where
   or_either false b is = inr is
 
   -- a cell below the first constant is below each
+  below_either : (literal first : Value) (others : List Value) → order_of cell first ≡ Less
+      → (is_eq (order_of literal first) ≡ true) ⊎ (list_any (λ value. is_eq (order_of literal value)) others ≡ true)
+      → (list_any (λ value. is_eq (order_of literal value)) others ≡ true → order_of cell literal ≡ Less) → order_of cell literal ≡ Less
+  below_either literal first others below (inl same) later = alike_right total literal first cell (is_equal (order_of literal first) same) ∙ below
+  below_either literal first others below (inr found) later = later found
+
   below_all : (literal first : Value) (others : List Value) → order_of cell first ≡ Less → Ascends total first others
       → list_any (λ value. is_eq (order_of literal value)) (first ∷ others) ≡ true → order_of cell literal ≡ Less
-  below_all literal first others below all found =
-      below_either literal first others below all (or_either (is_eq (order_of literal first)) (list_any (λ value. is_eq (order_of literal value)) others) found)
-
-  below_either : (literal first : Value) (others : List Value) → order_of cell first ≡ Less → Ascends total first others
-      → (is_eq (order_of literal first) ≡ true) ⊎ (list_any (λ value. is_eq (order_of literal value)) others ≡ true) → order_of cell literal ≡ Less
-  below_either literal first others below all (inl same) = alike_right total literal first cell (is_equal (order_of literal first) same) ∙ below
-  below_either literal first [] below all (inr found) = cc
-  below_either literal first (next ∷ others) below all (inr found) = below_all literal next others (total.trans cell first next below all.0) all.1 found
+  below_all literal first [] below all found =
+      below_either literal first [] below (or_either (is_eq (order_of literal first)) false found) (λ later. cc)
+  below_all literal first (next ∷ others) below all found =
+      below_either literal first (next ∷ others) below (or_either (is_eq (order_of literal first)) (list_any (λ value. is_eq (order_of literal value)) (next ∷ others)) found)
+      (λ later. below_all literal next others (total.trans cell first next below all.0) all.1 later)
 
   outside : (lower first : Value) (others : List Value) → order_of cell first ≡ Less → Ascends total first others → (literal : Value) → Among lower (first ∷ others) literal → Outside lower literal
   outside lower first others below all literal (inl low) = inl low
@@ -186,19 +189,21 @@ module _ (total : IsTotal) (cell : Value) where
     find_from : (lower : Value) (values : List Value) → order_of lower cell ≡ Less → Ascends total lower values → All (Among lower values) literals → list_any test (pieces_from lower values) ≡ true
     find_from lower [] above all among =
         or_first (test (Gap lower None)) false (in_gap lower None above above (All-weaker (Among lower []) (Outside lower) (outside_last lower) literals among))
-    find_from lower (value ∷ values) above all among = find_at (order_of cell value) refl
+    find_from lower (value ∷ values) above all among =
+        find_at (order_of cell value) refl
+        (λ below. find_from value values below all.1 (All-weaker (Among lower (value ∷ values)) (Among value values) (further lower value values all.0) literals among))
       where
-        find_at : (order : Ordering) → order_of cell value ≡ order → list_any test (pieces_from lower (value ∷ values)) ≡ true
-        find_at Less is =
+        find_at : (order : Ordering) → order_of cell value ≡ order → (order_of value cell ≡ Less → list_any test (pieces_from value values) ≡ true) → list_any test (pieces_from lower (value ∷ values)) ≡ true
+        find_at Less is later =
             or_first (test (Gap lower (Some value))) (test (Point value) || list_any test (pieces_from value values))
             (in_gap lower (Some value) above (above, is) (All-weaker (Among lower (value ∷ values)) (Outside lower) (outside lower value values is all.1) literals among))
-        find_at Equal is =
+        find_at Equal is later =
             or_second (test (Gap lower (Some value))) (test (Point value) || list_any test (pieces_from value values))
             (or_first (test (Point value)) (list_any test (pieces_from value values)) (at_point value is))
-        find_at Greater is =
+        find_at Greater is later =
             or_second (test (Gap lower (Some value))) (test (Point value) || list_any test (pieces_from value values))
             (or_second (test (Point value)) (list_any test (pieces_from value values))
-            (find_from value values (turned cell value Greater is) all.1 (All-weaker (Among lower (value ∷ values)) (Among value values) (further lower value values all.0) literals among)))
+            (later (turned cell value Greater is)))
 
     -- A piece of the line passes, if the one does in which the cell lies.
     pub find : (values : List Value) → Ascends total Null values → All (Among Null values) literals → list_any test (pieces_of values) ≡ true
@@ -226,26 +231,28 @@ module _ (total : IsTotal) (cell : Value) where
 
   put_itself : (value : Value) (values : List Value) → list_any (λ other. is_eq (order_of value other)) (put_in value values) ≡ true
   put_itself value [] = or_one (is_eq (order_of value value)) false (ap is_eq (tied_itself total value))
-  put_itself value (first ∷ others) = itself_at (order_of value first) refl
+  put_itself value (first ∷ others) = itself_at (order_of value first) refl (put_itself value others)
     where
-      itself_at : (order : Ordering) → order_of value first ≡ order → list_any (λ other. is_eq (order_of value other)) (put_before order value first others (put_in value others)) ≡ true
-      itself_at Less is = or_one (is_eq (order_of value value)) (list_any (λ other. is_eq (order_of value other)) (first ∷ others)) (ap is_eq (tied_itself total value))
-      itself_at Equal is = or_one (is_eq (order_of value first)) (list_any (λ other. is_eq (order_of value other)) others) (ap is_eq is)
-      itself_at Greater is = or_other (is_eq (order_of value first)) (list_any (λ other. is_eq (order_of value other)) (put_in value others)) (put_itself value others)
+      itself_at : (order : Ordering) → order_of value first ≡ order → list_any (λ other. is_eq (order_of value other)) (put_in value others) ≡ true → list_any (λ other. is_eq (order_of value other)) (put_before order value first others (put_in value others)) ≡ true
+      itself_at Less is later = or_one (is_eq (order_of value value)) (list_any (λ other. is_eq (order_of value other)) (first ∷ others)) (ap is_eq (tied_itself total value))
+      itself_at Equal is later = or_one (is_eq (order_of value first)) (list_any (λ other. is_eq (order_of value other)) others) (ap is_eq is)
+      itself_at Greater is later = or_other (is_eq (order_of value first)) (list_any (λ other. is_eq (order_of value other)) (put_in value others)) later
 
   put_keeps : (literal value : Value) (values : List Value) → list_any (λ other. is_eq (order_of literal other)) values ≡ true → list_any (λ other. is_eq (order_of literal other)) (put_in value values) ≡ true
   put_keeps literal value [] is = cc
-  put_keeps literal value (first ∷ others) is = keeps_at (order_of value first)
+  put_keeps literal value (first ∷ others) is = keeps_at (order_of value first) (λ later. put_keeps literal value others later)
     where
-      keeps_at : (order : Ordering) → list_any (λ other. is_eq (order_of literal other)) (put_before order value first others (put_in value others)) ≡ true
-      keeps_at Less = or_other (is_eq (order_of literal value)) (list_any (λ other. is_eq (order_of literal other)) (first ∷ others)) is
-      keeps_at Equal = is
-      keeps_at Greater = keeps_either (or_either (is_eq (order_of literal first)) (list_any (λ other. is_eq (order_of literal other)) others) is)
-        where
-          keeps_either : (is_eq (order_of literal first) ≡ true) ⊎ (list_any (λ other. is_eq (order_of literal other)) others ≡ true)
-              → list_any (λ other. is_eq (order_of literal other)) (first ∷ put_in value others) ≡ true
-          keeps_either (inl same) = or_one (is_eq (order_of literal first)) (list_any (λ other. is_eq (order_of literal other)) (put_in value others)) same
-          keeps_either (inr later) = or_other (is_eq (order_of literal first)) (list_any (λ other. is_eq (order_of literal other)) (put_in value others)) (put_keeps literal value others later)
+      keeps_either : (is_eq (order_of literal first) ≡ true) ⊎ (list_any (λ other. is_eq (order_of literal other)) others ≡ true)
+          → (list_any (λ other. is_eq (order_of literal other)) others ≡ true → list_any (λ other. is_eq (order_of literal other)) (put_in value others) ≡ true)
+          → list_any (λ other. is_eq (order_of literal other)) (first ∷ put_in value others) ≡ true
+      keeps_either (inl same) more = or_one (is_eq (order_of literal first)) (list_any (λ other. is_eq (order_of literal other)) (put_in value others)) same
+      keeps_either (inr later) more = or_other (is_eq (order_of literal first)) (list_any (λ other. is_eq (order_of literal other)) (put_in value others)) (more later)
+
+      keeps_at : (order : Ordering) → (list_any (λ other. is_eq (order_of literal other)) others ≡ true → list_any (λ other. is_eq (order_of literal other)) (put_in value others) ≡ true)
+          → list_any (λ other. is_eq (order_of literal other)) (put_before order value first others (put_in value others)) ≡ true
+      keeps_at Less more = or_other (is_eq (order_of literal value)) (list_any (λ other. is_eq (order_of literal other)) (first ∷ others)) is
+      keeps_at Equal more = is
+      keeps_at Greater more = keeps_either (or_either (is_eq (order_of literal first)) (list_any (λ other. is_eq (order_of literal other)) others) is) more
 
   among_more : (value : Value) (values : List Value) (literal : Value) → Among Null values literal → Among Null (put_constant value values) literal
   among_more value values literal (inl low) = inl low

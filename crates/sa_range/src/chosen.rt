@@ -6,7 +6,7 @@ use crate::line::Piece;
 
 /// The pieces on which columns stand: the first columns on the points of a sequence, and one more on
 /// a piece of its line.
-#[derive(Debug, Drop)]
+#[derive(Drop)]
 pub(crate) struct Chosen<'a> {
     pub(crate) columns: &'a [u32],
     pub(crate) points: &'a [Piece],

@@ -5,6 +5,7 @@ mod atom;
 mod chosen;
 mod comparison;
 mod constant;
+mod law;
 mod line;
 mod listing;
 mod literal;
@@ -15,5 +16,6 @@ mod span;
 mod truth;
 mod united;
 
+pub use law::{ranges_are_canonical, ranges_cover_once};
 pub use line::{Piece, Pieces};
 pub use listing::ranges;

@@ -1,6 +1,6 @@
 ghost use Rattle.std.specs.Prelude.{◌≡◌, ◌++◌, IfOk, OnOk, option_map};
 ghost use Rattle.std.specs.List.{flat_map};
-ghost use Rattle.sa_range.specs.inner.Longer.{at_most, is_ended as ends_in_gap, longer_of, with_piece};
+ghost use Rattle.sa_range.specs.inner.Longer.{at_most, is_ended as ends_in_gap, keeps, longer_of, with_piece};
 
 use crate::chosen::Chosen;
 use crate::line::{Piece, Pieces, copied};
@@ -10,7 +10,7 @@ use sa_value::{OutOfMemory, Truth};
 use std::alloc::Global;
 
 /// A condition, the parts of a key before one, and that part with the pieces of its line.
-#[derive(Debug, Drop)]
+#[derive(Drop)]
 pub(crate) struct Step<'a> {
     pub(crate) condition: &'a Cond,
     pub(crate) table: u32,
@@ -73,6 +73,20 @@ fn put_kept(
     ensures { OnOk result (longer.new.items ≡ longer.old.items ++ with_piece step.now.condition.now
         step.now.table step.now.columns.now step.now.column walk.now piece.now) }
 {
+    if is_kept(step, walk, piece) {
+        let mut whole = copied(alloc, walk)?;
+        whole.push(piece.copy(alloc)?)?;
+        longer.push(whole)?;
+    }
+    Ok(())
+}
+
+/// Whether the condition is TRUE with a piece behind the points of a sequence.
+#[tactic(auto, unfolding(crate::specs::inner::Longer::keeps))]
+fn is_kept(step: &Step<'_>, walk: &[Piece], piece: &Piece) -> bool
+    ensures { result ≡ keeps step.now.condition.now step.now.table step.now.columns.now
+        step.now.column walk.now piece.now }
+{
     let chosen = Chosen {
         columns: step.columns,
         points: walk,
@@ -80,14 +94,9 @@ fn put_kept(
         piece,
     };
     match truth_on(step.table, &chosen, step.condition) {
-        Truth::False | Truth::Unknown => {}
-        Truth::True => {
-            let mut whole = copied(alloc, walk)?;
-            whole.push(piece.copy(alloc)?)?;
-            longer.push(whole)?;
-        }
+        Truth::False | Truth::Unknown => false,
+        Truth::True => true,
     }
-    Ok(())
 }
 
 /// Whether a sequence ends in a gap.
