@@ -1,5 +1,7 @@
 pub mod Agreeing
+pub mod Choosing
 pub mod Covering
+pub mod Gathered
 pub mod Lawful
 pub mod Levels
 pub mod Neighbours

@@ -1,5 +1,6 @@
 -- Ranges that are put behind others one by one are those that are united from the end.
-use Rattle.std.proofs.Common.{◌≡◌, Bool, true, false, cond, List, [], ◌∷◌, ◌++◌, refl, sym, ap, ◌∙◌}
+use Rattle.std.proofs.Common.{◌≡◌, ℕ, ◌+◌, ◌<◌, Bool, true, false, cond, List, [], ◌∷◌, ◌++◌, length, map, take, get_or, refl, sym, ap, ap₂, ◌∙◌}
+use Rattle.std.proofs.lemmas.List.{map_more}
 use Rattle.std.specs.Ordering.{is_eq}
 use Rattle.sa_key.specs.declared.range.KeyRange.{KeyRange}
 use Rattle.sa_key.specs.Range.{order_of_cuts}
@@ -52,3 +53,10 @@ pub put_last-front : (front : List KeyRange) (last y : KeyRange) → put_last (f
 put_last-front [] last y = refl
 put_last-front (x ∷ []) last y = refl
 put_last-front (x ∷ next ∷ front) last y = ap (λ rest. x ∷ rest) (put_last-front (next ∷ front) last y)
+
+-- one more range of a list that is united as it is made
+pub united_more : {A : Type 0} (f : A → KeyRange) (xs : List A) (i : ℕ) (x : A) → i < length xs → x ≡ get_or xs i x → (ranges new : List KeyRange) (range : KeyRange)
+    → ranges ≡ united (map f (take i xs)) → new ≡ put_last ranges range → range ≡ f x → new ≡ united (map f (take (i + 1) xs))
+united_more f xs i x here is ranges new range before made same =
+    made ∙ ap₂ put_last before same ∙ sym (united_last (map f (take i xs)) (f x))
+    ∙ ap united (ap (λ item. map f (take i xs) ++ f item ∷ []) is ∙ sym (map_more f xs i x here))

@@ -1,0 +1,28 @@
+-- The piece on which a column stands, as a loop looks for it.
+use Rattle.std.proofs.Common.{◌≡◌, ℕ, ◌+◌, ◌<◌, ◌≤◌, Bool, true, false, cond, List, [], ◌∷◌, ◌++◌, length, drop, get_or, Option, Some, None, refl, sym, ap, ap₂, ◌∙◌, arith}
+use Rattle.std.specs.Prelude.{◌==◌}
+use Rattle.std.proofs.lemmas.List.{drop_more, drop_all}
+use Rattle.sa_range.specs.declared.line.Piece.{Piece}
+use Rattle.sa_range.specs.Atom.{piece_at}
+use Rattle.sa_range.specs.inner.Placed.{placed}
+
+placed-nil : (columns : List ℕ) → placed columns [] ≡ []
+placed-nil [] = refl
+placed-nil (column ∷ columns) = refl
+
+module _ (columns : List ℕ) (points : List Piece) (last : List (ℕ × Piece)) (column i : ℕ) where
+  abbrev from : ℕ → Option Piece
+  from place = piece_at column (placed (drop place columns) (drop place points) ++ last)
+
+  pub at_further : (d : ℕ) (e : Piece) → i < length columns → i < length points → (get_or columns i d == column) ≡ false → from (i + 1) ≡ from i
+  at_further d e here there other =
+      sym (ap₂ (λ (rest : List ℕ) (others : List Piece). piece_at column (placed rest others ++ last)) (drop_more columns i d here) (drop_more points i e there)
+      ∙ ap (λ (test : Bool). cond test (Some (get_or points i e)) (from (i + 1))) other)
+
+  pub past_columns : length columns ≤ i → from i ≡ piece_at column last
+  past_columns past = ap (λ (rest : List ℕ). piece_at column (placed rest (drop i points) ++ last)) (drop_all i columns past)
+
+  pub past_points : length points ≤ i → from i ≡ piece_at column last
+  past_points past =
+      ap (λ (others : List Piece). piece_at column (placed (drop i columns) others ++ last)) (drop_all i points past)
+      ∙ ap (λ (front : List (ℕ × Piece)). piece_at column (front ++ last)) (placed-nil (drop i columns))
