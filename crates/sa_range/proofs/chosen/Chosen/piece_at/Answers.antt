@@ -1,8 +1,8 @@
-use Rattle.std.proofs.Common.{◌≡◌, ℕ, ◌∷◌, [], Bool, cond, Option, Some, None, List, sym, ap, ◌∙◌, arith}
+use Rattle.std.proofs.Common.{◌≡◌, ℕ, ◌∷◌, [], List, sym, ◌∙◌, arith}
 use Rattle.sa_range.specs.declared.line.Piece.{Piece}
 use Rattle.sa_range.specs.Atom.{piece_at}
 use Rattle.sa_range.specs.inner.Placed.{chosen_at}
-use Rattle.sa_range.proofs.Choosing.{at_further, past_columns, past_points}
+use Rattle.sa_range.proofs.Choosing.{at_further, at_last, not_last, past_columns, past_points}
 use Rattle.sa_range.proofs.chosen.Chosen.piece_at.Goals as goal
 use Rattle.sa_range.proofs.chosen.Chosen.piece_at.Goals.{then-loop-index-test+else-index-points, else-loop-index-test}
 
@@ -20,7 +20,7 @@ returns-then-self-column c =
       | then-loop-index-test+else-index-points w ↦ sym (past_points c.args.self.now.columns.now c.args.self.now.points.now last c.args.column c.loop-index.index (omega (arith, w.if-index-points.false))) ∙ c.loop-index.invariant
       | else-loop-index-test w ↦ sym (past_columns c.args.self.now.columns.now c.args.self.now.points.now last c.args.column c.loop-index.index (omega (arith, w.loop-index-test.false))) ∙ c.loop-index.invariant
     ] in
-    ap (λ (test : Bool). cond test (Some c.args.self.now.piece.now) None) (sym c.if-self-column.true) ∙ all
+    at_last c.args.column c.args.self.now.column c.args.self.now.piece.now c.if-self-column.true ∙ all
 
 pub returns-else-self-column : goal.returns-else-self-column
 returns-else-self-column c =
@@ -30,4 +30,4 @@ returns-else-self-column c =
       | then-loop-index-test+else-index-points w ↦ sym (past_points c.args.self.now.columns.now c.args.self.now.points.now last c.args.column c.loop-index.index (omega (arith, w.if-index-points.false))) ∙ c.loop-index.invariant
       | else-loop-index-test w ↦ sym (past_columns c.args.self.now.columns.now c.args.self.now.points.now last c.args.column c.loop-index.index (omega (arith, w.loop-index-test.false))) ∙ c.loop-index.invariant
     ] in
-    ap (λ (test : Bool). cond test (Some c.args.self.now.piece.now) None) (sym c.if-self-column.false) ∙ all
+    not_last c.args.column c.args.self.now.column c.args.self.now.piece.now c.if-self-column.false ∙ all
