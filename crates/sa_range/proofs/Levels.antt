@@ -96,6 +96,7 @@ module _ (condition : Cond) (table : ℕ) where
   line column = pieces_of (constants (literals_of table column condition))
 
   longer-grown : (columns : List ℕ) (column : ℕ) (walk : List Piece) → longer_of condition table columns column (line column) walk ≡ grown [] columns column walk
+  unfolding keeps
   longer-grown columns column walk =
       ap (cond (is_ended walk) (walk ∷ [])) (flat_filter (keeps condition table columns column walk) (λ last. walk ++ last ∷ []) (line column))
 
@@ -112,11 +113,11 @@ module _ (condition : Cond) (table : ℕ) where
 
   -- The sequences over the first parts, all of which serve.
   pub record Serving (parts : List ℕ) (i : ℕ) (walks : List (List Piece)) : Type 0 where
-    pub walks : walks ≡ sequences condition table [] (take i parts)
-    pub parts : parts_of condition table parts ≡ parts_from condition table (take i parts) (drop i parts)
+    pub found : walks ≡ sequences condition table [] (take i parts)
+    pub counted : parts_of condition table parts ≡ parts_from condition table (take i parts) (drop i parts)
 
   pub serving_begins : (parts : List ℕ) → Serving parts 0 ([] ∷ [])
-  serving_begins parts = record { walks = refl; parts = refl }
+  serving_begins parts = record { found = refl; counted = refl }
 
   module _ (parts : List ℕ) (i column : ℕ) (walks : List (List Piece)) (here : i < length parts) (is : column ≡ get_or parts i column) (at : Serving parts i walks) where
     taken : take (i + 1) parts ≡ take i parts ++ column ∷ []
@@ -126,10 +127,10 @@ module _ (condition : Cond) (table : ℕ) where
     left = drop_more parts i column here ∙ ap (λ first. first ∷ drop (i + 1) parts) (sym is)
 
     all_longer : flat_map (longer_of condition table (take i parts) column (line column)) walks ≡ sequences condition table [] (take i parts ++ column ∷ [])
-    all_longer = ap (flat_map (longer_of condition table (take i parts) column (line column))) at.walks ∙ one_more (take i parts) column
+    all_longer = ap (flat_map (longer_of condition table (take i parts) column (line column))) at.found ∙ one_more (take i parts) column
 
     fits_or_not : parts_of condition table parts ≡ cond (nat_le (length (sequences condition table [] (take i parts ++ column ∷ []))) 1024) (parts_from condition table (take i parts ++ column ∷ []) (drop (i + 1) parts)) (length (take i parts))
-    fits_or_not = at.parts ∙ ap (parts_from condition table (take i parts)) left
+    fits_or_not = at.counted ∙ ap (parts_from condition table (take i parts)) left
 
     some_more : (walks' : List (List Piece)) (more : List (List Piece)) (fits : Bool) → Some more ≡ cond fits (Some walks') None → (fits ≡ true) × (more ≡ walks')
     some_more walks' more true is = (refl, cc)
@@ -144,8 +145,8 @@ module _ (condition : Cond) (table : ℕ) where
     serving_more more found =
         let all = some_more (sequences condition table [] (take i parts ++ column ∷ [])) more (nat_le (length (sequences condition table [] (take i parts ++ column ∷ []))) 1024) (found ∙ ap at_most all_longer) in
         record {
-          walks = all.1 ∙ ap (sequences condition table []) (sym taken);
-          parts = fits_or_not ∙ ap (λ fits. cond fits (parts_from condition table (take i parts ++ column ∷ []) (drop (i + 1) parts)) (length (take i parts))) all.0
+          found = all.1 ∙ ap (sequences condition table []) (sym taken);
+          counted = fits_or_not ∙ ap (λ fits. cond fits (parts_from condition table (take i parts ++ column ∷ []) (drop (i + 1) parts)) (length (take i parts))) all.0
               ∙ ap (λ front. parts_from condition table front (drop (i + 1) parts)) (sym taken);
         }
 

@@ -3,6 +3,7 @@ pub mod Choosing
 pub mod Covering
 pub mod Gathered
 pub mod Lawful
+pub mod Limited
 pub mod Levels
 pub mod Neighbours
 pub mod Once
