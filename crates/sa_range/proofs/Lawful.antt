@@ -10,6 +10,7 @@ use Rattle.sa_key.specs.declared.cut.Cut.{Cut}
 use Rattle.sa_key.specs.declared.range.KeyRange.{KeyRange}
 use Rattle.sa_key.specs.Range.{canonical_cut, canonical_range, is_cut_in, is_tuple_in, order_of_cuts}
 use Rattle.sa_key.proofs.RangeLemmas.{below, canonical_cut-again, canonical_cut-length, order_of_cuts-total, tuple_as_cut}
+use Rattle.sa_interval.specs.declared.list.RangeList.{RangeList}
 use Rattle.sa_interval.specs.Canonical.{AreCanonical, lies_in}
 use Rattle.sa_cond.specs.declared.cond.Cond.{Cond}
 use Rattle.sa_cond.specs.Choice.{Choice}
@@ -96,6 +97,23 @@ module _ (tuple : List Value) where
 map-map : (walks : List (List Piece)) → map (λ walk. canonical_range (range_of [] walk)) walks ≡ map canonical_range (map (range_of []) walks)
 map-map [] = refl
 map-map (walk ∷ walks) = ap (λ rest. canonical_range (range_of [] walk) ∷ rest) (map-map walks)
+
+-- sequences over a key of four parts or fewer
+pub sequences_four : (condition : Cond) (table count : ℕ) (columns : List ℕ) → length columns ≤ 4 → All (λ walk. length walk ≤ 4) (sequences condition table [] (take count columns))
+sequences_four condition table count columns few =
+    All-weaker (λ (walk : List Piece). length walk ≤ length (take count columns)) (λ (walk : List Piece). length walk ≤ 4)
+    (λ walk fits. omega (arith, ap length (take-append-drop count columns), length-append (take count columns) (drop count columns)))
+    (sequences condition table [] (take count columns)) (sequences_short condition table [] (take count columns))
+
+abbrev made : ℕ → List KeyRange → RangeList
+made count ranges = record { parts = count; ranges = ranges }
+
+-- what was found is the list
+pub made_list : (condition : Cond) (table : ℕ) (columns : List ℕ) (count : ℕ) (walks : List (List Piece)) (ranges : List KeyRange) → count ≡ parts_of condition table columns → walks ≡ sequences condition table [] (take (parts_of condition table columns) columns)
+    → ranges ≡ united (map (λ walk. canonical_range (range_of [] walk)) walks) → made count ranges ≡ range_list condition table columns
+unfolding range_list
+made_list condition table columns count walks ranges counted found is =
+    ap₂ made counted (is ∙ ap (λ all. united (map (λ walk. canonical_range (range_of [] walk)) all)) found)
 
 module _ (total : IsTotal) (condition : Cond) (table : ℕ) (columns : List ℕ) where
   abbrev parts : List ℕ

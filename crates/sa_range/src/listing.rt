@@ -2,6 +2,7 @@ ghost use Rattle.std.specs.Prelude.{◌≡◌, ◌≤◌, IfOk, length};
 ghost use Rattle.sa_range.specs.RangeList.{range_list};
 ghost use Rattle.sa_interval.specs.Canonical.{AreCanonical};
 
+use crate::law::ranges_are_canonical;
 use crate::serving::served;
 use crate::united::united;
 use sa_cond::Cond;
@@ -26,6 +27,7 @@ pub fn ranges(
     ensures exact { IfOk result (λ list. list ≡ range_list filter.now table parts.now) }
     ensures canonical { IfOk result (λ list. AreCanonical list.ranges) }
 {
+    ranges_are_canonical();
     let served = served(alloc, filter, table, parts)?;
     Ok(RangeList {
         parts: served.parts,
