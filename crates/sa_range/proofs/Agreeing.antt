@@ -1,8 +1,7 @@
 -- The truth of a condition on pieces, where the cells of a row lie in them.
-use Rattle.std.proofs.Common.{◌≡◌, ◌≢◌, ℕ, Bool, true, false, not, ◌==◌, cond, List, [], ◌∷◌, ◌++◌, map, flat_map, fold, All, Option, Some, None, refl, sym, ap, ◌∙◌, subst}
+use Rattle.std.proofs.Common.{◌≡◌, ℕ, Bool, true, false, not, ◌==◌, cond, List, [], ◌∷◌, map, flat_map, fold, All, Option, Some, None, refl, sym, ap, ◌∙◌, subst}
 use Rattle.std.proofs.lemmas.Bool.{eqb-true, eq-eqb}
 use Rattle.std.proofs.lemmas.List.Elements.{All-head, All-tail}
-use Rattle.std.specs.declared.cmp.Ordering.{Ordering}
 use Rattle.sa_value.specs.declared.truth.CompareOp.{CompareOp}
 use Rattle.sa_value.specs.declared.truth.Truth.{Truth}
 use Rattle.sa_value.specs.declared.truth.Truth.TheVariants.{False, Unknown, True}
@@ -18,8 +17,7 @@ use Rattle.sa_cond.specs.Expression.{expr_value, node_value}
 use Rattle.sa_cond.proofs.CondForms.{by_forms, holds-Known, holds-Compare, holds-IsNull, holds-NotNull, holds-And, holds-Or}
 use Rattle.sa_cond.proofs.Lists.{All-flat, All-one}
 use Rattle.sa_range.specs.declared.line.Piece.{Piece}
-use Rattle.sa_range.specs.declared.line.Piece.TheVariants.{Point, Gap}
-use Rattle.sa_range.specs.Atom.{Atom, compared, tested, column_in, literal_in, comparison, null_test, literal_of, literals_of, compared_on, tested_on, piece_at, on_piece, atom_truth, written_truth, truth_on}
+use Rattle.sa_range.specs.Atom.{compared, column_in, literal_in, comparison, null_test, literal_of, literals_of, compared_on, tested_on, piece_at, on_piece, atom_truth, written_truth, truth_on}
 
 -- A comparison with a literal has the truth on a piece that it has of a cell.
 abbrev pub Agrees : (cell : Value) → Piece → Value → Type 0

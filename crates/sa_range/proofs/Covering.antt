@@ -1,5 +1,5 @@
 -- The key tuple of a row on which the condition is TRUE lies in the range of one of the sequences.
-use Rattle.std.proofs.Common.{◌≡◌, ℕ, Bool, true, false, not, ◌&&◌, ◌||◌, ◌==◌, cond, List, [], ◌∷◌, ◌++◌, length, take, map, flat_map, Option, Some, None, refl, sym, ap, ap₂, ◌∙◌, subst, inl, inr, ◌⊎◌}
+use Rattle.std.proofs.Common.{◌≡◌, ℕ, Bool, true, false, not, ◌&&◌, ◌||◌, ◌==◌, cond, List, [], ◌∷◌, ◌++◌, length, take, map, flat_map, Some, None, refl, ap, ap₂, ◌∙◌, subst, inl, inr, ◌⊎◌}
 use Rattle.std.specs.List.{filter, list_any}
 use Rattle.std.specs.Ordering.{ordering_then, ordering_reverse}
 use Rattle.std.specs.declared.cmp.Ordering.{Ordering}
@@ -22,7 +22,7 @@ use Rattle.sa_range.specs.declared.line.Piece.{Piece}
 use Rattle.sa_range.specs.declared.line.Piece.TheVariants.{Point, Gap}
 use Rattle.sa_range.specs.Line.{constants, pieces_of}
 use Rattle.sa_range.specs.Atom.{is_true, literals_of, piece_at, truth_on}
-use Rattle.sa_range.specs.RangeList.{continued, kept_pieces, sequences, range_of}
+use Rattle.sa_range.specs.RangeList.{continued, sequences, range_of}
 use Rattle.sa_range.proofs.Agreeing.{Fits, Suits, stays_true}
 use Rattle.sa_range.proofs.Rising.{IsTotal, behind, behind_cut, spans-Point, constants_ascend}
 use Rattle.sa_range.proofs.Standing.{Stands, find, all_among}
@@ -53,9 +53,9 @@ any_kept tuple follow keep (piece ∷ pieces) =
     elim (keep piece) as (λ kept. covered tuple (map (range_of []) (flat_map (continued follow) (cond kept (piece ∷ filter keep pieces) (filter keep pieces))))
     ≡ ((kept && covered tuple (map (range_of []) (continued follow piece))) || list_any (λ piece. keep piece && covered tuple (map (range_of []) (continued follow piece))) pieces)) [
       | true ↦
-        ap (covered tuple) (map-append (range_of []) (continued follow piece) (flat_map (continued follow) (filter keep pieces)))
-        ∙ list_any-append (λ (range : KeyRange). is_tuple_in range tuple) (map (range_of []) (continued follow piece)) (map (range_of []) (flat_map (continued follow) (filter keep pieces)))
-        ∙ ap (λ rest. covered tuple (map (range_of []) (continued follow piece)) || rest) (any_kept tuple follow keep pieces)
+          ap (covered tuple) (map-append (range_of []) (continued follow piece) (flat_map (continued follow) (filter keep pieces)))
+          ∙ list_any-append (λ (range : KeyRange). is_tuple_in range tuple) (map (range_of []) (continued follow piece)) (map (range_of []) (flat_map (continued follow) (filter keep pieces)))
+          ∙ ap (λ rest. covered tuple (map (range_of []) (continued follow piece)) || rest) (any_kept tuple follow keep pieces)
       | false ↦ any_kept tuple follow keep pieces
     ]
 

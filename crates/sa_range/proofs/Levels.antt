@@ -1,19 +1,18 @@
 -- Sequences of kept pieces over one part more, and how many parts serve.
-use Rattle.std.proofs.Common.{◌≡◌, ℕ, ◌+◌, ◌<◌, ◌≤◌, suc, Bool, true, false, cond, List, [], ◌∷◌, ◌++◌, length, take, drop, get_or, map, flat_map, All, Option, Some, None, refl, sym, ap, ◌∙◌, subst, arith, append-nil}
+use Rattle.std.proofs.Common.{◌≡◌, ℕ, ◌+◌, ◌<◌, Bool, true, false, cond, List, [], ◌∷◌, ◌++◌, length, take, drop, get_or, map, flat_map, Option, Some, None, refl, sym, ap, ◌∙◌, arith, append-nil}
 use Rattle.std.specs.Prelude.{nat_le}
 use Rattle.std.specs.List.{filter}
-use Rattle.std.proofs.lemmas.List.{append_assoc, map-append, take_more, drop_more, length-take-le, get_or_read}
+use Rattle.std.proofs.lemmas.List.{append_assoc, map-append, take_more, drop_more, length-take-le}
 use Rattle.std.proofs.lemmas.List.Concat.{flat_map-append}
-use Rattle.std.proofs.lemmas.List.Elements.{All-nil, All-cons, All-append, All-map}
 use Rattle.sa_value.specs.declared.value.Value.{Value}
 use Rattle.sa_cond.specs.declared.cond.Cond.{Cond}
 use Rattle.sa_range.specs.declared.line.Piece.{Piece}
 use Rattle.sa_range.specs.declared.line.Piece.TheVariants.{Point, Gap}
 use Rattle.sa_range.specs.Line.{constants, pieces_of}
-use Rattle.sa_range.specs.Atom.{literals_of, truth_on, is_true}
+use Rattle.sa_range.specs.Atom.{literals_of}
 use Rattle.sa_range.specs.RangeList.{continued, kept_pieces, sequences, parts_from, parts_of}
 use Rattle.sa_range.specs.inner.Placed.{placed}
-use Rattle.sa_range.specs.inner.Longer.{is_ended, keeps, with_piece, longer_of, at_most}
+use Rattle.sa_range.specs.inner.Longer.{is_ended, keeps, longer_of, at_most}
 
 -- members that pass, each in a list of its own
 flat_filter : {A B : Type 0} (keep : A → Bool) (f : A → B) (xs : List A) → flat_map (λ x. cond (keep x) (f x ∷ []) []) xs ≡ map f (filter keep xs)
@@ -73,8 +72,8 @@ module _ (condition : Cond) (table : ℕ) where
       ≡ map (λ others. Point value ∷ others) (cond ended (walk ∷ []) (map (λ last. walk ++ last ∷ []) (kept_pieces condition table ((chosen ++ (first, Point value) ∷ []) ++ placed before walk) column)))) [
         | true ↦ refl
         | false ↦
-          map_twice (Point value) walk (kept_pieces condition table (chosen ++ (first, Point value) ∷ placed before walk) column)
-          ∙ ap (λ all. map (λ others. Point value ∷ others) (map (λ last. walk ++ last ∷ []) (kept_pieces condition table all column))) (sym (append_assoc chosen ((first, Point value) ∷ []) (placed before walk)))
+            map_twice (Point value) walk (kept_pieces condition table (chosen ++ (first, Point value) ∷ placed before walk) column)
+            ∙ ap (λ all. map (λ others. Point value ∷ others) (map (λ last. walk ++ last ∷ []) (kept_pieces condition table all column))) (sym (append_assoc chosen ((first, Point value) ∷ []) (placed before walk)))
       ]
 
   sequences_more : (chosen : List (ℕ × Piece)) (before : List ℕ) (column : ℕ)
@@ -88,7 +87,7 @@ module _ (condition : Cond) (table : ℕ) where
       (grown chosen (first ∷ before) column)
       (λ lower upper. refl)
       (λ value. ap (map (λ others. Point value ∷ others)) (sequences_more (chosen ++ (first, Point value) ∷ []) before column)
-          ∙ in_front (Point value) (grown (chosen ++ (first, Point value) ∷ []) before column) (grown chosen (first ∷ before) column) (grown_behind chosen first before column value) (sequences condition table (chosen ++ (first, Point value) ∷ []) before))
+      ∙ in_front (Point value) (grown (chosen ++ (first, Point value) ∷ []) before column) (grown chosen (first ∷ before) column) (grown_behind chosen first before column value) (sequences condition table (chosen ++ (first, Point value) ∷ []) before))
       (kept_pieces condition table chosen first)
 
   -- the pieces of a column's line

@@ -1,7 +1,7 @@
 -- The list of ranges is canonical, and a tuple that lies in a range of a sequence lies in exactly one of the list.
-use Rattle.std.proofs.Common.{◌≡◌, ℕ, ◌≤◌, suc, Bool, true, false, not, ◌&&◌, ◌||◌, cond, List, [], ◌∷◌, ◌++◌, length, map, All, refl, sym, ap, ap₂, ◌∙◌, subst, inl, inr, ◌⊎◌, arith}
+use Rattle.std.proofs.Common.{◌≡◌, suc, Bool, true, false, not, ◌&&◌, ◌||◌, cond, List, [], ◌∷◌, length, map, All, refl, sym, ap, ap₂, ◌∙◌, arith}
 use Rattle.std.specs.Prelude.{⊤}
-use Rattle.std.specs.List.{AllPairs, filter, list_any}
+use Rattle.std.specs.List.{AllPairs, filter}
 use Rattle.std.specs.Cmp.{IsTotalOrder}
 use Rattle.std.specs.Ordering.{is_gt, is_lt, is_eq}
 use Rattle.std.specs.declared.cmp.Ordering.{Ordering}
@@ -11,13 +11,13 @@ use Rattle.std.proofs.lemmas.List.Elements.{All-nil, All-cons}
 use Rattle.std.proofs.lemmas.List.Kept.{AllPairs-cons}
 use Rattle.sa_key.specs.declared.cut.Cut.{Cut}
 use Rattle.sa_key.specs.declared.range.KeyRange.{KeyRange}
-use Rattle.sa_key.specs.Range.{IsCanonicalCut, canonical_cut, canonical_range, is_cut_in, order_of_cuts}
-use Rattle.sa_key.proofs.RangeLemmas.{canonical_cut-again, le_lt, lt_le, order_of_cuts-total}
+use Rattle.sa_key.specs.Range.{canonical_cut, canonical_range, is_cut_in, order_of_cuts}
+use Rattle.sa_key.proofs.RangeLemmas.{canonical_cut-again, le_lt, lt_le}
 use Rattle.sa_interval.specs.Canonical.{AreCanonical, IsCanonicalRange, lies_in}
 use Rattle.sa_interval.specs.inner.Growing.{IsUpto}
 use Rattle.sa_range.proofs.Within.{cut_in, lt_up, none_before, within}
 use Rattle.sa_range.specs.RangeList.{joined, united}
-use Rattle.sa_range.proofs.Rising.{IsTotal, Upto, Before, Rising, before_upto}
+use Rattle.sa_range.proofs.Rising.{Before, Rising}
 
 -- Canonical ranges, each behind the end of the one before.
 abbrev Ahead : Cut → List KeyRange → Type 0
@@ -43,12 +43,17 @@ module _ (total : IsTotalOrder order_of_cuts) where
   joined_starts low range (next ∷ others) upto canonical starts = at_end (is_eq (order_of_cuts range.to next.from)) refl
     where
       at_end : (touch : Bool) → is_eq (order_of_cuts range.to next.from) ≡ touch → Starts low (cond touch (record { from = range.from; to = next.to } ∷ others) (range ∷ next ∷ others))
-      at_end true is =
-          (upto, (record {
+      at_end true is = (
+        upto,
+        (
+          record {
             from = canonical.from;
             to = starts.1.0.to;
             rises = lt_le total range.from range.to next.to canonical.rises (ap is_gt (le_lt total range.to next.from next.to starts.0 starts.1.0.rises));
-          }, starts.1.1))
+          },
+          starts.1.1,
+        ),
+      )
       at_end false is = (upto, (canonical, (not_gt (order_of_cuts range.to next.from) starts.0 is, (starts.1.0, starts.1.1))))
 
   pub united_starts : (low : Cut) (ranges : List KeyRange) (high : Cut) → Rising low ranges high → Starts (canonical_cut low) (united (map canonical_range ranges))

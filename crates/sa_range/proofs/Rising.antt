@@ -1,9 +1,9 @@
 -- The ranges of all sequences rise, and are disjoint.
-use Rattle.std.proofs.Common.{◌≡◌, ◌≢◌, ℕ, Bool, true, false, cond, List, [], ◌∷◌, ◌++◌, map, flat_map, Option, Some, None, refl, sym, ap, ap₂, ◌∙◌, subst}
+use Rattle.std.proofs.Common.{◌≡◌, ℕ, Bool, true, false, cond, List, [], ◌∷◌, ◌++◌, map, flat_map, Some, None, refl, sym, ap, ap₂, ◌∙◌, subst}
 use Rattle.std.specs.Prelude.{⊤}
 use Rattle.std.specs.List.{filter}
 use Rattle.std.specs.Cmp.{IsTotalOrder}
-use Rattle.std.specs.Ordering.{is_gt, is_lt, is_eq, ordering_then, ordering_reverse}
+use Rattle.std.specs.Ordering.{is_gt, ordering_then, ordering_reverse}
 use Rattle.std.specs.declared.cmp.Ordering.{Ordering}
 use Rattle.std.specs.declared.cmp.Ordering.TheVariants.{Less, Equal, Greater}
 use Rattle.std.proofs.lemmas.Cmp.{tied_itself, upto as upto_next}
@@ -17,7 +17,6 @@ use Rattle.sa_key.specs.declared.cut.Side.TheVariants.{Below, Above}
 use Rattle.sa_key.specs.declared.range.KeyRange.{KeyRange}
 use Rattle.sa_key.specs.Range.{order_of_sides, order_of_ends, order_of_cuts, kept_before, without_last_nulls, canonical_tuple, canonical_cut}
 use Rattle.sa_key.proofs.RangeLemmas.{order_of_cuts-total}
-
 use Rattle.sa_cond.specs.declared.cond.Cond.{Cond}
 use Rattle.sa_range.specs.declared.line.Piece.{Piece}
 use Rattle.sa_range.specs.declared.line.Piece.TheVariants.{Point, Gap}
@@ -125,9 +124,10 @@ module _ (total : IsTotal) where
 
   rising_behind : (value : Value) (low : Cut) (ranges : List KeyRange) (high : Cut) → Rising low ranges high → Rising (behind_cut value low) (map (behind value) ranges) (behind_cut value high)
   rising_behind value low [] high rises = ap is_gt (behind_order total value low high) ∙ rises
-  rising_behind value low (range ∷ ranges) high rises =
-      (ap is_gt (behind_order total value low range.from) ∙ rises.0,
-      (behind_order total value range.from range.to ∙ rises.1.0, rising_behind value range.to ranges high rises.1.1))
+  rising_behind value low (range ∷ ranges) high rises = (
+    ap is_gt (behind_order total value low range.from) ∙ rises.0,
+    (behind_order total value range.from range.to ∙ rises.1.0, rising_behind value range.to ranges high rises.1.1),
+  )
 
   -- The pieces of a line, as ranges.
   abbrev from_cut : Piece → Cut
@@ -200,11 +200,16 @@ module _ (total : IsTotal) where
 
   pieces_rise : (lower : Value) (values : List Value) → Ascends lower values → Line (record { tuple = lower ∷ []; side = Above }) (pieces_from lower values) top
   pieces_rise lower [] all = (upto_itself total (record { tuple = lower ∷ []; side = Above }), (refl, upto_itself total top))
-  pieces_rise lower (value ∷ values) all =
-      (upto_itself total (record { tuple = lower ∷ []; side = Above }),
-      (gap_rises lower value all.0,
-      (upto_itself total (record { tuple = value ∷ []; side = Below }),
-      (point_rises value, pieces_rise value values all.1))))
+  pieces_rise lower (value ∷ values) all = (
+    upto_itself total (record { tuple = lower ∷ []; side = Above }),
+    (
+      gap_rises lower value all.0,
+      (
+        upto_itself total (record { tuple = value ∷ []; side = Below }),
+        (point_rises value, pieces_rise value values all.1),
+      ),
+    ),
+  )
 
   line_rises : (values : List Value) → Ascends Null values → Line bottom (pieces_of values) top
   line_rises values all = (refl, (refl, pieces_rise Null values all))

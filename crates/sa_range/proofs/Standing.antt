@@ -1,7 +1,6 @@
 -- In which piece of a line a cell lies, and that literals compare with the piece as with the cell.
-use Rattle.std.proofs.Common.{◌≡◌, ◌≢◌, ℕ, Bool, true, false, not, ◌||◌, cond, List, [], ◌∷◌, ◌++◌, map, All, Option, Some, None, refl, sym, ap, ap₂, ◌∙◌, subst, inl, inr, ◌⊎◌}
+use Rattle.std.proofs.Common.{◌≡◌, Bool, true, false, not, ◌||◌, cond, List, [], ◌∷◌, All, Option, Some, None, refl, sym, ap, ◌∙◌, inl, inr, ◌⊎◌}
 use Rattle.std.specs.List.{list_any}
-use Rattle.std.specs.Cmp.{IsTotalOrder}
 use Rattle.std.specs.Ordering.{is_gt, is_eq, ordering_reverse}
 use Rattle.std.specs.declared.cmp.Ordering.{Ordering}
 use Rattle.std.specs.declared.cmp.Ordering.TheVariants.{Less, Equal, Greater}
@@ -10,7 +9,7 @@ use Rattle.std.proofs.lemmas.List.Elements.{All-nil, All-cons, All-weaker}
 use Rattle.sa_value.specs.declared.truth.CompareOp.{CompareOp}
 use Rattle.sa_value.specs.declared.truth.CompareOp.TheVariants.{NullEq}
 use Rattle.sa_value.specs.declared.truth.Truth.{Truth}
-use Rattle.sa_value.specs.declared.truth.Truth.TheVariants.{False, Unknown, True}
+use Rattle.sa_value.specs.declared.truth.Truth.TheVariants.{Unknown}
 use Rattle.sa_value.specs.declared.value.Value.{Value}
 use Rattle.sa_value.specs.declared.value.Value.TheVariants.{Null, Int, Big, Text}
 use Rattle.sa_value.specs.Compare.{known, holds_at, order_of, truth_of}
@@ -19,7 +18,7 @@ use Rattle.sa_cond.specs.Condition.{is_null}
 use Rattle.sa_range.specs.declared.line.Piece.{Piece}
 use Rattle.sa_range.specs.declared.line.Piece.TheVariants.{Point, Gap}
 use Rattle.sa_range.specs.Line.{put_before, put_in, put_constant, constants, pieces_from, pieces_of}
-use Rattle.sa_range.specs.Atom.{beside, compared_on, tested_on, truth_beside}
+use Rattle.sa_range.specs.Atom.{beside, tested_on, truth_beside}
 use Rattle.sa_range.proofs.Agreeing.{Agrees, Suits, test_of}
 use Rattle.sa_range.proofs.Rising.{IsTotal, Ascends}
 

@@ -1,7 +1,7 @@
 -- Which cuts lie from one cut to another, by the total order of cuts.
-use Rattle.std.proofs.Common.{◌≡◌, Bool, true, false, not, ◌&&◌, sym, ◌∙◌, ap}
+use Rattle.std.proofs.Common.{◌≡◌, Bool, true, false, not, ◌&&◌, ◌∙◌, ap}
 use Rattle.std.specs.Cmp.{IsTotalOrder}
-use Rattle.std.specs.Ordering.{is_gt, is_lt}
+use Rattle.std.specs.Ordering.{is_lt}
 use Rattle.sa_key.specs.declared.cut.Cut.{Cut}
 use Rattle.sa_key.specs.declared.range.KeyRange.{KeyRange}
 use Rattle.sa_key.specs.Range.{IsCanonicalCut, canonical_cut, is_cut_in, order_of_cuts}

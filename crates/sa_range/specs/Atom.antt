@@ -1,4 +1,5 @@
--- Which parts of a condition speak of one column alone, and what is true of them on a piece of its line.
+-- Which parts of a condition speak of one column alone, and what is true of them on a piece of its
+-- line.
 use Rattle.std.specs.Prelude.{ℕ, Bool, true, false, ◌==◌, List, [], ◌∷◌, Option, Some, None, if◌then◌else◌}
 use Rattle.std.specs.List.{flat_map}
 use Rattle.std.specs.Ordering.{is_gt}

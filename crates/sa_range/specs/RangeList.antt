@@ -1,10 +1,9 @@
 -- The ranges of a key that a condition leaves.
-use Rattle.std.specs.Prelude.{ℕ, ◌+◌, nat_le, List, [], ◌∷◌, ◌++◌, map, length, take, Option, Some, None, if◌then◌else◌}
+use Rattle.std.specs.Prelude.{ℕ, nat_le, List, [], ◌∷◌, ◌++◌, map, length, take, Option, Some, None, if◌then◌else◌}
 use Rattle.std.specs.List.{filter, flat_map}
 use Rattle.std.specs.Ordering.{is_eq}
 use Rattle.sa_value.specs.declared.value.Value.{Value}
 use Rattle.sa_key.specs.declared.cut.Cut.{Cut}
-use Rattle.sa_key.specs.declared.cut.Side.{Side}
 use Rattle.sa_key.specs.declared.cut.Side.TheVariants.{Below, Above}
 use Rattle.sa_key.specs.declared.range.KeyRange.{KeyRange}
 use Rattle.sa_key.specs.Range.{canonical_range, order_of_cuts}
@@ -79,5 +78,5 @@ unfoldable pub range_list : (condition : Cond) (table : ℕ) (columns : List ℕ
 range_list condition table columns = record {
   parts = parts_of condition table columns;
   ranges = united (map (λ pieces. canonical_range (range_of [] pieces))
-  (sequences condition table [] (take (parts_of condition table columns) columns)));
+      (sequences condition table [] (take (parts_of condition table columns) columns)));
 }

@@ -13,13 +13,7 @@ pub(crate) fn column_in(table: u32, expr: &Expr) -> Option<u32>
         Expr::Column {
             table: other,
             column,
-        } => {
-            if *other == table {
-                Some(*column)
-            } else {
-                None
-            }
-        }
+        } => { if *other == table { Some(*column) } else { None } }
         _ => None,
     }
 }

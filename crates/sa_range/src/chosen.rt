@@ -4,8 +4,8 @@ ghost use Rattle.sa_range.specs.inner.Placed.{chosen_at};
 
 use crate::line::Piece;
 
-/// The pieces on which columns stand: the first columns on the points of a sequence, and one more on
-/// a piece of its line.
+/// The pieces on which columns stand: the first columns on the points of a sequence, and one more
+/// on a piece of its line.
 #[derive(Drop)]
 pub(crate) struct Chosen<'a> {
     pub(crate) columns: &'a [u32],

@@ -1,5 +1,5 @@
-//! What is true of the list of ranges of every condition. Each law is a function that does nothing: its
-//! contract states the law, which its proof shows once and for all.
+//! What is true of the list of ranges of every condition. Each law is a function that does nothing:
+//! its contract states the law, which its proof shows once and for all.
 
 ghost use Rattle.std.specs.Prelude.{◌≡◌, ℕ, List, length, map};
 ghost use Rattle.std.specs.List.{filter};
@@ -15,14 +15,16 @@ ghost use Rattle.sa_range.specs.RangeList.{range_list};
 use sa_simplify::simple_is_true_alike;
 use sa_value::order_is_total;
 
-/// Each row on which a condition is TRUE with some rows of the other tables lies in exactly one range
-/// of its list, and in exactly one of the list of its simplified form: the tuple of the row's cells in
-/// the columns of the key does.
+/// Each row on which a condition is TRUE with some rows of the other tables lies in exactly one
+/// range of its list, and in exactly one of the list of its simplified form. The row lies in a range
+/// where the tuple of its cells in the columns of the key does.
 pub fn ranges_cover_once()
-    ensures own { (c : condition) (table : ℕ) (columns : List ℕ) (choice : Choice) → holds choice c ≡ True →
+    ensures own { (c : condition) (table : ℕ) (columns : List ℕ) (choice : Choice) →
+        holds choice c ≡ True →
         length (filter (λ range. is_tuple_in range (map (choice.cell table) columns))
         (range_list c table columns).ranges) ≡ 1 }
-    ensures simplified { (c : condition) (table : ℕ) (columns : List ℕ) (choice : Choice) → holds choice c ≡ True →
+    ensures simplified { (c : condition) (table : ℕ) (columns : List ℕ) (choice : Choice) →
+        holds choice c ≡ True →
         length (filter (λ range. is_tuple_in range (map (choice.cell table) columns))
         (range_list (simple c) table columns).ranges) ≡ 1 }
 {

@@ -13,8 +13,8 @@ use std::alloc::Global;
 /// The ranges of a key of a table that a filter leaves.
 ///
 /// `table` is the table's position in FROM, and `parts` are the columns of the key. For example
-/// `a = 1 AND b > 2` leaves of a key over a and b the tuples from above (1, 2) to above (1). The list
-/// takes memory from `alloc`.
+/// `a = 1 AND b > 2` leaves of a key over a and b the tuples from above (1, 2) to above (1). A text
+/// in a cut is a copy, and the list takes memory from `alloc`.
 ///
 /// Source: MariaDB Knowledge Base, "EXPLAIN", type "range".
 pub fn ranges(
@@ -34,4 +34,3 @@ pub fn ranges(
         ranges: united(alloc, served.walks.as_slice())?,
     })
 }
-

@@ -31,7 +31,8 @@ fn put_literals(
     column: u32,
     cond: &Cond,
 ) -> Result<(), OutOfMemory>
-    ensures { OnOk result (literals.new.items ≡ literals.old.items ++ literals_of table column cond.now) }
+    ensures { OnOk result (literals.new.items
+        ≡ literals.old.items ++ literals_of table column cond.now) }
 {
     match cond {
         Cond::Compare { op, left, right } => {
@@ -42,7 +43,11 @@ fn put_literals(
         Cond::Known(_) => Ok(()),
         Cond::IsNull(_) => Ok(()),
         Cond::NotNull(_) => Ok(()),
-        Cond::Between { value: _, low: _, high: _ } => Ok(()),
+        Cond::Between {
+            value: _,
+            low: _,
+            high: _,
+        } => Ok(()),
         Cond::Among { value: _, list: _ } => Ok(()),
         Cond::Not(_) => Ok(()),
     }
@@ -77,7 +82,8 @@ fn put_literal(
     right: &Expr,
 ) -> Result<(), OutOfMemory>
     ensures { OnOk result (literals.new.items ≡ literals.old.items ++ literal_of column
-        (comparison op (table_column table (out-Expr left.now)) (literal_value (out-Expr right.now)))) }
+        (comparison op (table_column table (out-Expr left.now))
+        (literal_value (out-Expr right.now)))) }
 {
     let Some(other) = column_in(table, left) else {
         return Ok(());

@@ -29,8 +29,8 @@ pub(crate) fn longer(
     walks: &[Pieces],
 ) -> Result<Option<Vec<Pieces>>, OutOfMemory>
     ensures { IfOk result (λ found. option_map (λ longer. longer.items) found ≡ at_most
-        (flat_map (longer_of step.now.condition.now step.now.table step.now.columns.now step.now.column
-        step.now.line.now) walks.now)) }
+        (flat_map (longer_of step.now.condition.now step.now.table step.now.columns.now
+        step.now.column step.now.line.now) walks.now)) }
 {
     let mut longer = Vec::new(alloc);
     for walk in walks {
@@ -42,7 +42,8 @@ pub(crate) fn longer(
     Ok(Some(longer))
 }
 
-/// Puts the sequences that begin with a sequence to the end of others. Behind a gap nothing follows.
+/// Puts the sequences that begin with a sequence to the end of others. Behind a gap nothing
+/// follows.
 fn put_longer(
     alloc: Global,
     longer: &mut Vec<Pieces>,

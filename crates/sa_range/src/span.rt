@@ -9,7 +9,8 @@ use std::alloc::Global;
 
 /// The range of a sequence of pieces.
 ///
-/// For example the point 1 and the gap from 2 to 5 are the tuples from above (1, 2) to below (1, 5).
+/// For example the point 1 and the gap from 2 to 5 are the tuples from above (1, 2) to below
+/// (1, 5).
 pub(crate) fn range_of(alloc: Global, walk: &[Piece]) -> Result<KeyRange, OutOfMemory>
     requires { length walk.now ≤ 4 }
     ensures { IfOk result (λ range. range ≡ span_of [] walk.now) }
@@ -42,8 +43,9 @@ fn gap_range(
 ) -> Result<KeyRange, OutOfMemory>
     requires { length points < 4 }
     ensures { IfOk result (λ range. range ≡ record {
-        from = record { tuple = points ++ lower.now ∷ []; side = Above };
-        to = end_of_gap points upper.now }) }
+      from = record { tuple = points ++ lower.now ∷ []; side = Above };
+      to = end_of_gap points upper.now;
+    }) }
 {
     let mut from = points.copy(alloc)?;
     from.push(lower.copy(alloc)?)?;

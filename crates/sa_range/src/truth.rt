@@ -25,7 +25,11 @@ pub(crate) fn truth_on(table: u32, chosen: &Chosen<'_>, cond: &Cond) -> Truth
         Cond::NotNull(expr) => tested(table, chosen, false, expr),
         Cond::And(members) => all_of(table, chosen, members.as_slice()),
         Cond::Or(members) => any_of(table, chosen, members.as_slice()),
-        Cond::Between { value: _, low: _, high: _ } => Truth::True,
+        Cond::Between {
+            value: _,
+            low: _,
+            high: _,
+        } => Truth::True,
         Cond::Among { value: _, list: _ } => Truth::True,
         Cond::Not(_) => Truth::True,
     }
@@ -64,7 +68,8 @@ fn any_of(table: u32, chosen: &Chosen<'_>, members: &[Cond]) -> Truth
 /// The truth of a comparison, TRUE where it isn't one of a chosen column with a literal.
 fn compared(table: u32, chosen: &Chosen<'_>, op: CompareOp, left: &Expr, right: &Expr) -> Truth
     ensures { result ≡ atom_truth (chosen_at chosen.now)
-        (comparison op (table_column table (out-Expr left.now)) (literal_value (out-Expr right.now))) }
+        (comparison op (table_column table (out-Expr left.now))
+        (literal_value (out-Expr right.now))) }
 {
     let Some(column) = column_in(table, left) else {
         return Truth::True;
@@ -86,10 +91,10 @@ fn tested(table: u32, chosen: &Chosen<'_>, for_null: bool, expr: &Expr) -> Truth
     let Some(column) = column_in(table, expr) else {
         return Truth::True;
     };
-    match chosen.piece_at(column) {
-        None => Truth::True,
-        Some(piece) => tested_on(for_null, piece),
-    }
+    let Some(piece) = chosen.piece_at(column) else {
+        return Truth::True;
+    };
+    tested_on(for_null, piece)
 }
 
 /// The truth that a truth counts as where it is written: UNKNOWN counts as TRUE.

@@ -16,7 +16,8 @@ is_ended (Gap lower upper ∷ pieces) = true
 module _ (condition : Cond) (table : ℕ) (columns : List ℕ) (column : ℕ) where
   -- whether a piece of the column is kept behind the points of a sequence
   unfoldable pub keeps : List Piece → Piece → Bool
-  keeps walk piece = is_true (truth_on table (placed columns walk ++ (column, piece) ∷ []) condition)
+  keeps walk piece =
+      is_true (truth_on table (placed columns walk ++ (column, piece) ∷ []) condition)
 
   -- the sequence with a piece at its end, if that is kept
   abbrev pub with_piece : List Piece → Piece → List (List Piece)

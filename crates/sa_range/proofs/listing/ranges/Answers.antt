@@ -1,5 +1,4 @@
 use Rattle.std.proofs.Common.{◌≤◌, List, All, length, sym, subst, ap, ◌∙◌}
-use Rattle.sa_key.specs.declared.range.KeyRange.{KeyRange}
 use Rattle.sa_interval.specs.declared.list.RangeList.{RangeList}
 use Rattle.sa_interval.specs.Canonical.{AreCanonical}
 use Rattle.sa_range.specs.declared.line.Piece.{Piece}

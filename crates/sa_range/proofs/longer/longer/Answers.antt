@@ -1,4 +1,4 @@
-use Rattle.std.proofs.Common.{◌≡◌, ◌<◌, ◌≤◌, [], ap, ◌∙◌, length, arith}
+use Rattle.std.proofs.Common.{arith}
 use Rattle.sa_range.specs.inner.Longer.{longer_of}
 use Rattle.sa_range.proofs.Limited.{found_all, found_more, found_too_many}
 use Rattle.sa_range.proofs.longer.longer.Goals as goal

@@ -1,9 +1,9 @@
-use Rattle.std.proofs.Common.{◌≡◌, ◌<◌, [], List, length, take, get_or, option_map, flat_map, Some, None, sym, ap, ap₂, ◌∙◌, arith}
+use Rattle.std.proofs.Common.{◌<◌, [], List, length, take, get_or, option_map, flat_map, sym, ap, ap₂, ◌∙◌, arith}
 use Rattle.std.proofs.lemmas.List.{get_or_default}
 use Rattle.sa_range.specs.declared.line.Piece.{Piece}
 use Rattle.sa_range.specs.RangeList.{sequences}
 use Rattle.sa_range.specs.inner.Longer.{at_most, longer_of}
-use Rattle.sa_range.proofs.Levels.{line, serving_more, serving_stops}
+use Rattle.sa_range.proofs.Levels.{serving_more, serving_stops}
 use Rattle.sa_range.proofs.serving.served.Goals as goal
 
 pub returns-in-None-clause-parts : goal.returns-in-None-clause-parts
