@@ -1,0 +1,13 @@
+pub mod Agreeing
+pub mod Choosing
+pub mod Covering
+pub mod Gathered
+pub mod Lawful
+pub mod Limited
+pub mod Levels
+pub mod Neighbours
+pub mod Once
+pub mod Putting
+pub mod Rising
+pub mod Standing
+pub mod Within

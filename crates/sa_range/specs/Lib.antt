@@ -1,0 +1,4 @@
+pub mod Line
+pub mod Atom
+pub mod RangeList
+pub mod inner

@@ -1,0 +1,4 @@
+pub mod Placed
+pub mod Constant
+pub mod Longer
+pub mod Joined
