@@ -1,13 +1,13 @@
 -- What the session of a new pass knows of a board, and that it may begin a statement.
-use Rattle.std.proofs.Common.{◌≡◌, ℕ, ◌+◌, ◌-◌, ◌≤◌, List, [], length, None, refl, sym, ap, subst, ◌∙◌, arith, length-replicate}
-use Rattle.std.specs.Prelude.{slice_index, slice_index_or}
-use Rattle.std.proofs.lemmas.List.{get_or-replicate}
+use Rattle.std.proofs.Common.{◌≡◌, ℕ, ◌+◌, ◌-◌, ◌≤◌, List, [], length, None, refl, sym, ap, subst, ◌∙◌, arith}
+use Rattle.std.specs.Prelude.{slice_index}
+use Rattle.std.proofs.lemmas.List.{get_or-replicate, length-replicate}
 use Rattle.sa_desk.specs.declared.entry.Entry.{Entry}
 use Rattle.sa_desk.specs.declared.entry.Event.TheVariants.{Begin}
 use Rattle.sa_desk.specs.declared.stamp.Caller.{Caller}
 use Rattle.sa_desk.specs.Charge.{charge}
 use Rattle.sa_desk.specs.Contents.{Contents}
-use Rattle.sa_desk.specs.New.{no_desk, AreNew}
+use Rattle.sa_desk.specs.New.{no_desk}
 use Rattle.sa_desk.specs.Own.{free, own_from}
 use Rattle.sa_desk.specs.World.{World, Meets, IsFirst, next_stamp, standing_on}
 use Rattle.sa_desk.specs.call.Begin.{AreGiven, MayBegin}
@@ -16,24 +16,23 @@ use Rattle.sa_board.specs.Board.{BoardState, new_pass}
 use Rattle.sa_board.specs.Pass.{PassState, KnowsStill, known_desk, world_of}
 use Rattle.sa_board.proofs.Calls.{known-else}
 use Rattle.sa_board.proofs.First.{IsFirst-new}
-use Rattle.sa_board_tests.specs.Start.{even_desk, new_desks}
+use Rattle.sa_board_tests.specs.Start.{even_desk, AreEven}
 use Rattle.sa_board_tests.proofs.Founding.{desk-at}
 
 -- A statement without a plan.
 unplanned : AreGiven None None
 unplanned = record { together = (λ none. none, λ none. none); lawful = tt }
 
-module _ (board : BoardState) (quantum turns sessions each : ℕ) (founded : board.founded ≡ new_desks quantum turns sessions each) (are : AreNew board.founded) (session : ℕ) where
+module _ (board : BoardState) (sessions quantum turns each : ℕ) (even : AreEven board.founded sessions quantum turns each) (session : ℕ) where
   abbrev pass : PassState
   pass = new_pass board session
 
   -- what it knows of a desk
-  pub known-at : (desk : ℕ) → 1 ≤ desk → desk ≤ sessions → known_desk pass desk ≡ even_desk quantum turns sessions each desk
+  pub known-at : (desk : ℕ) → 1 ≤ desk → desk ≤ sessions → known_desk pass desk ≡ even_desk sessions quantum turns each desk
   known-at desk least most =
       known-else pass desk (λ none. let zero : desk ≡ 0 = none in absurd (omega (arith, zero, least)))
-      ∙ ap (λ (desks : List Contents). slice_index_or desks (desk - 1) no_desk) founded
-      ∙ desk-at quantum turns sessions each (desk - 1) no_desk (omega arith)
-      ∙ ap (even_desk quantum turns sessions each) (let same : desk - 1 + 1 ≡ desk = omega arith in same)
+      ∙ desk-at sessions quantum turns each board.founded even.each (desk - 1) no_desk (omega arith)
+      ∙ ap (even_desk sessions quantum turns each) (let same : desk - 1 + 1 ≡ desk = omega arith in same)
 
   -- its share of each desk
   pub share-at : (desk : ℕ) → 1 ≤ desk → desk ≤ sessions → 1 ≤ session → session ≤ sessions → slice_index ((world_of pass).shares desk) (session - 1) ≡ each
@@ -41,7 +40,7 @@ module _ (board : BoardState) (quantum turns sessions each : ℕ) (founded : boa
       ap (λ (one : Contents). slice_index one.shares (session - 1)) (known-at desk least most) ∙ get_or-replicate sessions (session - 1) each 0 (omega arith)
 
   pub first : IsFirst (world_of pass)
-  first = IsFirst-new board are session
+  first = IsFirst-new board even.new session
 
   module _ (later : World) (still : KnowsStill (world_of pass) later) (met : Meets later session session) (least : 1 ≤ session) (most : session ≤ sessions) (some : 1 ≤ each) where
     mine-is : later.mine session ≡ []

@@ -1,11 +1,11 @@
 //! Two sessions on two threads, each inside its own desk.
 
-ghost use Rattle.std.specs.Prelude.{◌≡◌, ◌≤◌, length};
+ghost use Rattle.std.specs.Prelude.{◌≡◌, ◌+◌, ◌<◌, ◌≤◌};
 ghost use Rattle.sa_board.specs.Board.{new_pass, new_passes};
-ghost use Rattle.sa_board_tests.specs.Start.{new_desks};
 ghost use Rattle.sa_board_tests.specs.Home.{IsHome, AreHome};
+ghost use Rattle.sa_board_tests.specs.Start.{AreEven};
 
-use crate::tests::start::desks_of;
+use crate::tests::start::board_of;
 use sa_board::{Board, Pass, boards_share, passes_send};
 use sa_desk::{Caller, Desks};
 use sa_source::{MeetPause, Pause};
@@ -24,7 +24,7 @@ fn begin_inside<R: Wait>(
     pass: &mut Pass,
     session: u32,
 )
-    requires board { board.now.founded ≡ new_desks 2 1 2 6 }
+    requires board { AreEven board.now.founded 2 2 1 1 }
     requires pass { pass.old ≡ new_pass board.now session }
     requires least { 1 ≤ session }
     requires most { session ≤ 2 }
@@ -55,7 +55,7 @@ fn begin_apart<R: Threads + Wait + Sync>(
     board: &Board,
     passes: &mut [Pass],
 )
-    requires board { board.now.founded ≡ new_desks 2 1 2 6 }
+    requires board { AreEven board.now.founded 2 2 1 1 }
     requires passes { passes.old ≡ new_passes board.now }
     ensures { AreHome board.now passes.new }
 {
@@ -65,13 +65,18 @@ fn begin_apart<R: Threads + Wait + Sync>(
         rt,
         passes,
         2,
-        &|index, pass| begin_inside(rt, alloc, pause, board, pass, index as u32 + 1),
+        &|index, pass|
+            requires desks { AreEven board.now.founded 2 2 1 1 }
+            requires there { index < 2 }
+            requires pass { pass.old ≡ new_pass board.now (index + 1) }
+            ensures { IsHome board.entry.now (index + 1) pass.new }
+        { begin_inside(rt, alloc, pause, board, pass, index as u32 + 1) },
     );
 }
 
 #[test]
 fn two_sessions_are_inside_their_desks_at_once(rt: HostRuntime) -> Result<(), Fail> {
-    let (board, mut passes) = Board::new(rt.alloc(), desks_of(rt.alloc(), 2, 2, 1, 6)?)?;
+    let (board, mut passes) = board_of(rt.alloc(), 2, 2, 1, 1)?;
     let pause = MeetPause::new(10_000_000);
     begin_apart(&rt, rt.alloc(), &pause, &board, &mut passes);
     let journals = board.finish(passes);
