@@ -1,2 +1,4 @@
+pub mod Founding
+pub mod Newcomers
 pub mod Still
 pub mod Turned

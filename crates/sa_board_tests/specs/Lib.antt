@@ -1,1 +1,3 @@
+pub mod Home
 pub mod Members
+pub mod Start

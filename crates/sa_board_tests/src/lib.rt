@@ -4,3 +4,6 @@
 mod turns;
 
 pub use turns::take_turn;
+
+#[cfg(test)]
+mod tests;

@@ -1,0 +1,4 @@
+//! Sessions over the passes of a board.
+
+mod apart;
+mod start;
