@@ -83,8 +83,3 @@ module _ (gives : Answers) (script : Sessions) (board : BoardState) (first : Pas
               sound = along.sound;
               working = IsWorking-still gives (world_of called) (world_of later) next still_home (subst (IsWorking gives (world_of called)) (sym next_is) working);
             }
-
-        -- It is the same session.
-        pub same_session : SamePass held called → later ≡ at_home called → later.session ≡ first.session
-        same_session same home =
-            ap (λ (pass : PassState). pass.session) home ∙ ap (λ (pass : PassState). pass.session) same ∙ ap (λ (pass : PassState). pass.session) taken.later_is

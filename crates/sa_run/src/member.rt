@@ -19,8 +19,8 @@ pub(crate) struct Member {
     pub(crate) ended: bool,
 }
 
-/// Makes the worker of a session, and takes its turns until it has closed. Where memory runs out for
-/// the worker, it hasn't.
+/// Makes the worker of a session, and takes its turns until it has closed. Where memory runs out
+/// for the worker, it hasn't ended.
 pub(crate) fn run_member<R: Wait, P: Preparer, Q: Pause>(
     rt: &R,
     prepare: &P,

@@ -23,8 +23,8 @@ use std::thread::{Threads, for_each_mut};
 /// The journals of all sessions of a script. Each session takes its turns on a thread of its own,
 /// where one can be made, and pauses after a turn whose call had to wait.
 ///
-/// `statements` has the texts of each session's statements. A turn makes at most `quantum` row steps,
-/// and a request or a wait lasts `turns` polls or looks.
+/// `statements` has the texts of each session's statements. A turn makes at most `quantum` row
+/// steps, and a request or a wait lasts `turns` polls or looks.
 pub fn run_sessions<R: Threads + Wait + Sync, P: Preparer + Sync, Q: Pause + Sync>(
     rt: &R,
     alloc: Global,
@@ -113,6 +113,7 @@ fn run_members<R: Threads + Wait + Sync, P: Preparer + Sync, Q: Pause + Sync>(
         HasRun (P.answers prepare.now) script.now board.now
         (slice_index_or members.old place none) (slice_index_or members.new place none) }
 {
+    // what may cross threads
     passes_send();
     statements_send();
     members_send();
@@ -129,7 +130,8 @@ fn run_members<R: Threads + Wait + Sync, P: Preparer + Sync, Q: Pause + Sync>(
 
 /// The passes of the members, where all have closed.
 fn ended_passes(alloc: Global, members: Vec<Member>) -> Result<Vec<Pass>, OutOfMemory>
-    ensures passes { IfOk result (λ passes. passes.items ≡ map (λ member. member.pass) members.items) }
+    ensures passes { IfOk result (λ passes.
+        passes.items ≡ map (λ member. member.pass) members.items) }
     ensures ended { IfOk result (λ _. All (λ member. IsTrue member.ended) members.items) }
 {
     let mut passes = Vec::with_capacity(alloc, members.len())?;
