@@ -115,9 +115,6 @@ module _ (condition : Cond) (table : ℕ) where
     pub found : walks ≡ sequences condition table [] (take i parts)
     pub counted : parts_of condition table parts ≡ parts_from condition table (take i parts) (drop i parts)
 
-  pub serving_begins : (parts : List ℕ) → Serving parts 0 ([] ∷ [])
-  serving_begins parts = record { found = refl; counted = refl }
-
   module _ (parts : List ℕ) (i column : ℕ) (walks : List (List Piece)) (here : i < length parts) (is : column ≡ get_or parts i column) (at : Serving parts i walks) where
     taken : take (i + 1) parts ≡ take i parts ++ column ∷ []
     taken = take_more parts i column here ∙ ap (λ last. take i parts ++ last ∷ []) (sym is)

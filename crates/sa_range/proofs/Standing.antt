@@ -130,6 +130,13 @@ module _ (total : IsTotal) (cell : Value) where
   is_equal Equal is = refl
   is_equal Greater is = cc
 
+  or_one : (a b : Bool) → a ≡ true → (a || b) ≡ true
+  or_one a b is = ap (λ first. first || b) is
+
+  or_other : (a b : Bool) → b ≡ true → (a || b) ≡ true
+  or_other true b is = refl
+  or_other false b is = is
+
   or_either : (a b : Bool) → (a || b) ≡ true → (a ≡ true) ⊎ (b ≡ true)
   or_either true b is = inl refl
   or_either false b is = inr is
@@ -166,13 +173,6 @@ module _ (total : IsTotal) (cell : Value) where
       further_either (inr later) = inr later
 
   module _ (literals : List Value) (test : Piece → Bool) (found : (piece : Piece) → Stands cell piece → Suits cell piece literals → test piece ≡ true) where
-    or_first : (a b : Bool) → a ≡ true → (a || b) ≡ true
-    or_first a b is = ap (λ first. first || b) is
-
-    or_second : (a b : Bool) → b ≡ true → (a || b) ≡ true
-    or_second true b is = refl
-    or_second false b is = is
-
     at_point : (value : Value) → order_of cell value ≡ Equal → test (Point value) ≡ true
     at_point value same = found (Point value) same (record {
       compared = λ k d here. point_agrees value same _;
@@ -187,21 +187,21 @@ module _ (total : IsTotal) (cell : Value) where
 
     find_from : (lower : Value) (values : List Value) → order_of lower cell ≡ Less → Ascends total lower values → All (Among lower values) literals → list_any test (pieces_from lower values) ≡ true
     find_from lower [] above all among =
-        or_first (test (Gap lower None)) false (in_gap lower None above above (All-weaker (Among lower []) (Outside lower) (outside_last lower) literals among))
+        or_one (test (Gap lower None)) false (in_gap lower None above above (All-weaker (Among lower []) (Outside lower) (outside_last lower) literals among))
     find_from lower (value ∷ values) above all among =
         find_at (order_of cell value) refl
         (λ below. find_from value values below all.1 (All-weaker (Among lower (value ∷ values)) (Among value values) (further lower value values all.0) literals among))
       where
         find_at : (order : Ordering) → order_of cell value ≡ order → (order_of value cell ≡ Less → list_any test (pieces_from value values) ≡ true) → list_any test (pieces_from lower (value ∷ values)) ≡ true
         find_at Less is later =
-            or_first (test (Gap lower (Some value))) (test (Point value) || list_any test (pieces_from value values))
+            or_one (test (Gap lower (Some value))) (test (Point value) || list_any test (pieces_from value values))
             (in_gap lower (Some value) above (above, is) (All-weaker (Among lower (value ∷ values)) (Outside lower) (outside lower value values is all.1) literals among))
         find_at Equal is later =
-            or_second (test (Gap lower (Some value))) (test (Point value) || list_any test (pieces_from value values))
-            (or_first (test (Point value)) (list_any test (pieces_from value values)) (at_point value is))
+            or_other (test (Gap lower (Some value))) (test (Point value) || list_any test (pieces_from value values))
+            (or_one (test (Point value)) (list_any test (pieces_from value values)) (at_point value is))
         find_at Greater is later =
-            or_second (test (Gap lower (Some value))) (test (Point value) || list_any test (pieces_from value values))
-            (or_second (test (Point value)) (list_any test (pieces_from value values))
+            or_other (test (Gap lower (Some value))) (test (Point value) || list_any test (pieces_from value values))
+            (or_other (test (Point value)) (list_any test (pieces_from value values))
             (later (turned cell value Greater is)))
 
     -- A piece of the line passes, if the one does in which the cell lies.
@@ -215,18 +215,11 @@ module _ (total : IsTotal) (cell : Value) where
         not_below (Text other) is = cc
 
         find_at : (order : Ordering) → order_of Null cell ≡ order → list_any test (pieces_of values) ≡ true
-        find_at Less is = or_second (test (Point Null)) (list_any test (pieces_from Null values)) (find_from Null values is all among)
-        find_at Equal is = or_first (test (Point Null)) (list_any test (pieces_from Null values)) (at_point Null (tied_back total Null cell is))
+        find_at Less is = or_other (test (Point Null)) (list_any test (pieces_from Null values)) (find_from Null values is all among)
+        find_at Equal is = or_one (test (Point Null)) (list_any test (pieces_from Null values)) (at_point Null (tied_back total Null cell is))
         find_at Greater is = absurd (not_below cell is)
 
   -- Each literal is NULL, or equal to a constant.
-
-  or_one : (a b : Bool) → a ≡ true → (a || b) ≡ true
-  or_one a b is = ap (λ first. first || b) is
-
-  or_other : (a b : Bool) → b ≡ true → (a || b) ≡ true
-  or_other true b is = refl
-  or_other false b is = is
 
   put_itself : (value : Value) (values : List Value) → list_any (λ other. is_eq (order_of value other)) (put_in value values) ≡ true
   put_itself value [] = or_one (is_eq (order_of value value)) false (ap is_eq (tied_itself total value))
