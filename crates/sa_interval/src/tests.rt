@@ -132,9 +132,9 @@ fn list(rt: &impl Abort, alloc: Global, text: &str) -> Result<KeyRanges, OutOfMe
 fn are_pieces(alloc: Global, pieces: &KeyRanges) -> Result<bool, OutOfMemory>
     ensures { IfOk result (λ rise. IsTrue rise → ArePieces pieces.now) }
 {
-    let pieces = pieces.as_slice();
-    for index in 0..pieces.len() {
-        if !may_follow(alloc, pieces, index)? {
+    let each = pieces.as_slice();
+    for index in 0..each.len() {
+        if !may_follow(alloc, each, index)? {
             return Ok(false);
         }
     }
