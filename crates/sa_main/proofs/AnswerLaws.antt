@@ -27,6 +27,7 @@ use Rattle.sa_legal.specs.Shows.{ShowsLawful}
 use Rattle.sa_legal.proofs.Telling.{can_be_told}
 use Rattle.sa_prepare.proofs.SoundWork.{prepared_is_sound}
 use Rattle.sa_plan.specs.declared.names.TableNames.{TableNames}
+use Rattle.sa_main.specs.declared.command.Command.TheVariants.{Step, Run}
 use Rattle.sa_main.specs.Answer.{sessions_of, TellsJournals, IsRefusal}
 
 -- A script within its limits may start.
@@ -94,14 +95,22 @@ module _ (script : Script) (ready tables : List Table) (texts : List (List (List
       (subst (λ ready. InCourse (Prepares ready) (record { tables = tables; texts = texts; quantum = script.quantum; turns = script.turns }) script.schedule journals) ready_same
       (subst (λ schedule. InCourse (Prepares ready) (record { tables = tables; texts = texts; quantum = script.quantum; turns = script.turns }) schedule journals) schedule_same coursed)))
 
-  pub tells_journals : (schedule : List ℕ) → schedule ≡ script.schedule → InSchedule (record { tables = tables; texts = texts; quantum = script.quantum; turns = script.turns }) schedule journals
+  pub tells_stepped : (schedule : List ℕ) → schedule ≡ script.schedule → InSchedule (record { tables = tables; texts = texts; quantum = script.quantum; turns = script.turns }) schedule journals
       → InCourse (Prepares ready) (record { tables = tables; texts = texts; quantum = script.quantum; turns = script.turns }) schedule journals
-      → (names : List TableNames) (text : List ℕ) → names ≡ names_of script.tables → text ≡ transcript names journals → TellsJournals script text
-  tells_journals schedule schedule_same scheduled coursed names text same told = record {
+      → (names : List TableNames) (text : List ℕ) → names ≡ names_of script.tables → text ≡ transcript names journals → TellsJournals Step script text
+  tells_stepped schedule schedule_same scheduled coursed names text same told = record {
     journals = journals;
     legal = legal_here;
-    in_schedule = scheduled_here schedule schedule_same scheduled;
-    in_course = coursed_here schedule schedule_same coursed;
+    in_order = λ _. record { in_schedule = scheduled_here schedule schedule_same scheduled; in_course = coursed_here schedule schedule_same coursed };
+    told = told ∙ ap (λ names. transcript names journals) same;
+  }
+
+  -- No order is told of sessions on threads.
+  pub tells_run : (names : List TableNames) (text : List ℕ) → names ≡ names_of script.tables → text ≡ transcript names journals → TellsJournals Run script text
+  tells_run names text same told = record {
+    journals = journals;
+    legal = legal_here;
+    in_order = λ step. absurd (let same : Run ≡ Step = step in cc);
     told = told ∙ ap (λ names. transcript names journals) same;
   }
 

@@ -1,2 +1,2 @@
 pub mod AnswerLaws
-pub mod StepLaws
+pub mod ScriptLaws

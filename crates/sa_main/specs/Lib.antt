@@ -1,3 +1,3 @@
 pub mod Answer
-pub mod Step
+pub mod Status
 pub mod Words

@@ -5,10 +5,12 @@
 
 mod analysis;
 mod answering;
-mod stepping;
+mod command;
+mod scripts;
+mod transfer;
 
 use analysis::analyze_main;
-use sa_source::{StdSink, StdSource};
+use sa_source::{SnoozePause, StdSink, StdSource};
 use std::process::ExitCode;
 use std::rt::Env;
 use std::{env, io};
@@ -22,7 +24,8 @@ fn main(rt: HostRuntime) -> ExitCode {
     };
     let mut source = StdSource::new(rt.stdin());
     let mut sink = StdSink::new(rt.stdout());
-    ExitCode::from(analyze_main(rt.alloc(), &words, &mut source, &mut sink))
+    let pause = SnoozePause::new();
+    ExitCode::from(analyze_main(&rt, rt.alloc(), &words, &mut source, &mut sink, &pause))
 }
 
 /// The words of the command line, the program's name left out.

@@ -1,11 +1,14 @@
 ghost use Rattle.std.specs.Prelude.{◌≢◌, IfOk};
 
 use crate::analysis::analyze_main;
-use sa_source::{PlainSink, PlainSource};
+use crate::scripts::step_script;
+use sa_source::{Pause, PlainSink, PlainSource};
 use std::alloc::{AllocError, Global};
 use std::process::Abort;
 use std::str::from_utf8;
+use std::sync::Wait;
 use std::test::Fail;
+use std::thread::Threads;
 
 mod cuts;
 mod faults;
@@ -15,6 +18,8 @@ mod outputs;
 mod requests;
 mod statements;
 mod texts;
+mod threads;
+mod words;
 
 /// The words of a command line.
 fn words_of(alloc: Global, line: &[&str]) -> Result<Vec<String>, AllocError> {
@@ -30,10 +35,24 @@ fn step_plain(alloc: Global, input: Vec<u8>) -> Result<(u8, PlainSink), AllocErr
     ensures no_source_fault { IfOk result (λ answer. answer.0 ≢ 4) }
     ensures no_sink_fault { IfOk result (λ answer. answer.0 ≢ 5) }
 {
-    let words = words_of(alloc, &["step"])?;
     let mut source = PlainSource::new(input);
     let mut sink = PlainSink::new(alloc);
-    let status = analyze_main(alloc, &words, &mut source, &mut sink);
+    let status = step_script(alloc, &mut source, &mut sink);
+    Ok((status, sink))
+}
+
+/// The status and the output of these words over memory, where neither side fails.
+fn main_plain<R: Threads + Wait + Sync, P: Pause + Sync>(
+    rt: &R,
+    alloc: Global,
+    line: &[&str],
+    input: Vec<u8>,
+    pause: &P,
+) -> Result<(u8, PlainSink), AllocError> {
+    let words = words_of(alloc, line)?;
+    let mut source = PlainSource::new(input);
+    let mut sink = PlainSink::new(alloc);
+    let status = analyze_main(rt, alloc, &words, &mut source, &mut sink, pause);
     Ok((status, sink))
 }
 

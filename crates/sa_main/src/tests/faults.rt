@@ -17,13 +17,12 @@ fn step_failing(
     requires reads { 0 < read_piece }
     requires writes { 0 < write_piece }
 {
-    let words = words_of(alloc, &["step"])?;
     let script = format!(in alloc; "{TABLE} {SERVED}")?;
     let failing_reads = Vec::from_slice(alloc, failing_reads)?;
     let failing_writes = Vec::from_slice(alloc, failing_writes)?;
     let mut source = MemorySource::new(script.into_bytes(), read_piece, failing_reads);
     let mut sink = MemorySink::new(alloc, write_piece, failing_writes);
-    let status = analyze_main(alloc, &words, &mut source, &mut sink);
+    let status = step_script(alloc, &mut source, &mut sink);
     Ok((status, sink))
 }
 
@@ -62,19 +61,5 @@ fn short_reads_and_writes_lose_nothing(rt: HostRuntime) -> Result<(), Fail> {
     let (status, sink) = step_failing(rt.alloc(), 1, &[], 1, &[])?;
     assert_eq!(rt; status, 0);
     assert!(rt; sink.taken() == SERVED_OUTPUT.as_bytes());
-    Ok(())
-}
-
-#[test]
-fn other_words_touch_nothing(rt: HostRuntime) -> Result<(), Fail> {
-    let lines: [&[&str]; 4] = [&[], &["run"], &["step", "x"], &["STEP"]];
-    for line in lines {
-        let words = words_of(rt.alloc(), line)?;
-        let mut source = PlainSource::new(Vec::from_slice(rt.alloc(), TABLE.as_bytes())?);
-        let mut sink = PlainSink::new(rt.alloc());
-        let status = analyze_main(rt.alloc(), &words, &mut source, &mut sink);
-        assert_eq!(rt; status, 2, "{words:?}");
-        assert!(rt; sink.taken().is_empty(), "{words:?}");
-    }
     Ok(())
 }

@@ -26,7 +26,11 @@ pub(crate) fn prints_lines(
     let script = format!(in alloc; "{TABLE} {sessions}")?;
     let (status, sink) = step_plain(alloc, script.into_bytes())?;
     assert_eq!(rt; status, 0, "{name}");
-    let text = text_of(&sink)?;
+    are_lines(rt, name, text_of(&sink)?, wanted)
+}
+
+/// A text has these lines.
+pub(crate) fn are_lines(rt: &impl Abort, name: &str, text: &str, wanted: &str) -> Result<(), Fail> {
     assert_eq!(rt;
         text.lines().count(),
         wanted.lines().count(),
