@@ -31,10 +31,10 @@ SCANS = "SELECT a FROM t WHERE a < 0;" * 20
 ASKS = "SHOW ANALYZE FOR 1;" * 250
 
 
-def with_table(rows, sessions):
-    """A script with a table of so many numbers, and these sessions."""
+def with_table(rows, sessions, turns=1_000_000):
+    """A script with a table of so many numbers, and these sessions. A request or a wait lasts so many turns."""
     block = "".join("%d\n" % number for number in range(rows))
-    script = "CREATE TABLE t (a INT); LOAD DATA t BYTES %d;\n%s" % (len(block), block)
+    script = "CREATE TABLE t (a INT); TURNS %d; LOAD DATA t BYTES %d;\n%s" % (turns, len(block), block)
     for number, statements in enumerate(sessions, 1):
         script += "\nSESSION %d;\n%s" % (number, statements)
     return script
@@ -140,7 +140,7 @@ def main():
         print("asked %-3d run %.2f  answered %d" % (askers, seconds - load, answered(lines)))
     worst = 0
     for _ in range(20):
-        seconds, lines = run(given.program, "run", with_table(200, busy_sessions()))
+        seconds, lines = run(given.program, "run", with_table(200, busy_sessions(), turns=1000))
         worst = max(worst, seconds)
         if fault_in(lines):
             sys.exit("sixteen: " + fault_in(lines))
