@@ -1,0 +1,9 @@
+mod ArrangedLemmas
+mod CountLemmas
+mod AlikeLemmas
+mod RowLemmas
+mod ShelfLemmas
+mod RangeLemmas
+mod BuiltLemmas
+mod ColumnLemmas
+mod LowerLemmas

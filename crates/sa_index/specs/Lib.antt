@@ -1,0 +1,4 @@
+pub mod Indexed
+pub mod Entries
+pub mod Law
+pub mod inner
