@@ -21,7 +21,7 @@ use Rattle.sa_exec.specs.Step.{most_rows}
 use Rattle.sa_exec.specs.inner.Place.{only_level, one_row, items_left, next_item, place_after, state_after, IsEmit, IsFull, HasNext}
 use Rattle.sa_exec.specs.inner.Ready.{HasRoom}
 use Rattle.sa_exec.specs.inner.Sound.{IsAt}
-use Rattle.sa_exec.proofs.OnlyLevel.{only_level-is}
+use Rattle.sa_exec.proofs.OnlyLevel.{only_level-is, only_level-whole}
 use Rattle.sa_exec.proofs.PlaceLemmas.{items_left-next, items_left-none, place-cases, counters_after-is, placed-next, emits-at, full-over, over-full}
 
 whole : (tables : RunData) (plan : Plan)
@@ -35,7 +35,7 @@ pub IsAt-start : (tables : RunData) (plan : Plan) → IsRunnable plan
     → IsAt tables plan 0 (record { count = row_count tables (only_level plan).table; place = Open; counters = record { loops = 0; rows = 0; passed = 0 } }) []
 IsAt-start tables plan runnable = record {
   within = omega arith;
-  left = items-one_level plan tables (only_level plan) (only_level-is plan runnable) ∙ whole tables plan;
+  left = items-one_level plan tables (only_level plan) (only_level-is plan runnable) (only_level-whole plan runnable) ∙ whole tables plan;
   placed = tt;
   count = refl;
   counters = refl;
@@ -123,7 +123,7 @@ module _ (tables : RunData) (plan : Plan) (steps : ℕ) (state : LevelState) (ro
   -- The report of a run of one level.
   pub counters-is : IsRunnable plan → level_counters plan tables steps ≡ state.counters ∷ []
   unfolding level_counters
-  counters-is runnable = rw (runnable) (ap (λ counters. counters ∷ []) (sym at.counters))
+  counters-is runnable = rw (runnable.one) (ap (λ counters. counters ∷ []) (sym at.counters))
 
   pub sent-is : sent_count plan tables steps ≡ length rows
   sent-is = sent_count-kept plan tables steps ∙ ap length (sym at.kept_is)

@@ -2,6 +2,7 @@
 use Rattle.std.proofs.Common.{◌≡◌, List, [], ◌∷◌, length, All, get_or, refl, subst, arith}
 use Rattle.std.proofs.lemmas.List.{get_or_read}
 use Rattle.sa_query.specs.declared.item.Item.{Item}
+use Rattle.sa_plan.specs.declared.access.Access.TheVariants as access
 use Rattle.sa_plan.specs.declared.plan.Level.{Level}
 use Rattle.sa_plan.specs.declared.plan.Plan.{Plan}
 use Rattle.sa_plan.specs.Lawful.{IsLawful, IsLawfulExpr, IsLawfulLevel, AreLawfulLevels}
@@ -16,11 +17,15 @@ one-element (x ∷ []) d one = refl
 one-element (x ∷ y ∷ ys) d one = absurd (omega (arith, one))
 
 pub only_level-is : (plan : Plan) → IsRunnable plan → plan.levels ≡ only_level plan ∷ []
-only_level-is plan runnable = one-element plan.levels no_level runnable
+only_level-is plan runnable = one-element plan.levels no_level runnable.one
+
+-- It reads its whole table.
+pub only_level-whole : (plan : Plan) → IsRunnable plan → (only_level plan).access ≡ access.All
+only_level-whole plan runnable = runnable.whole 0 no_level (omega (arith, runnable.one))
 
 -- What stands first in the plan's levels is that level.
 pub only_level-read : (plan : Plan) (level : Level) → IsRunnable plan → level ≡ get_or plan.levels 0 level → level ≡ only_level plan
-only_level-read plan level runnable here = get_or_read plan.levels 0 level (omega (arith, runnable)) here no_level
+only_level-read plan level runnable here = get_or_read plan.levels 0 level (omega (arith, runnable.one)) here no_level
 
 -- It is lawful.
 pub only_level-lawful : (tables : RunData) (plan : Plan) → IsLawful tables plan → IsRunnable plan → IsLawfulLevel tables [] (only_level plan)

@@ -51,9 +51,9 @@ may_schedule script limits texts schedule same same_schedule =
 
 sound_answer : (given : Given) (text : List ℕ) (answer : Answer) → IsAnswer (Prepares given.tables) text answer → IsSoundAnswer given answer
 sound_answer given text (prepared canonical (work.Select planned)) is =
-    let plan = prepared_is_sound given.tables text (record { text = canonical; work = work.Select planned }) is in record { lawful = plan.lawful; runnable = plan.one }
+    let plan = prepared_is_sound given.tables text (record { text = canonical; work = work.Select planned }) is in record { lawful = plan.lawful; runnable = plan.runnable }
 sound_answer given text (prepared canonical (work.Analyze planned)) is =
-    let plan = prepared_is_sound given.tables text (record { text = canonical; work = work.Analyze planned }) is in record { lawful = plan.lawful; runnable = plan.one }
+    let plan = prepared_is_sound given.tables text (record { text = canonical; work = work.Analyze planned }) is in record { lawful = plan.lawful; runnable = plan.runnable }
 sound_answer given text (prepared canonical (work.SetLimit limit)) is = prepared_is_sound given.tables text (record { text = canonical; work = work.SetLimit limit }) is
 sound_answer given text answer is = tt
 

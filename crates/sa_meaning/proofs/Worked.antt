@@ -9,7 +9,7 @@ use Rattle.sa_cond.specs.declared.expr.Expr.{the_lemmas as expr_lemmas}
 use Rattle.sa_cond.specs.declared.expr.Expr.TheVariants as expr
 use Rattle.sa_table.specs.declared.def.TableDef.{TableDef}
 use Rattle.sa_table.specs.Table.{Table}
-use Rattle.sa_plan.specs.declared.plan.Access.TheVariants.{All}
+use Rattle.sa_plan.specs.declared.access.Access.TheVariants.{All}
 use Rattle.sa_plan.specs.declared.plan.Plan.{Plan}
 use Rattle.sa_meaning.specs.Items.{open_level, read_row, emit_row, passes, selected, items}
 use Rattle.sa_meaning.specs.Counts.{counts, level_counters, sent_count}

@@ -11,7 +11,7 @@ use Rattle.sa_cond.specs.declared.expr.Expr.TheVariants as expr
 use Rattle.sa_query.specs.declared.item.Item.{Item}
 use Rattle.sa_table.specs.declared.def.TableDef.{TableDef}
 use Rattle.sa_table.specs.Table.{Table}
-use Rattle.sa_plan.specs.declared.plan.Access.TheVariants.{All}
+use Rattle.sa_plan.specs.declared.access.Access.TheVariants.{All}
 use Rattle.sa_plan.specs.declared.plan.Level.{Level}
 use Rattle.sa_plan.specs.declared.plan.Plan.{Plan}
 use Rattle.sa_meaning.specs.Items.{open_level, read_row, emit_row, passes, selected, items}

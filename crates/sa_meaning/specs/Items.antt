@@ -10,7 +10,7 @@ use Rattle.sa_query.specs.declared.item.Item.{Item}
 use Rattle.sa_query.specs.Choices.{is_true}
 use Rattle.sa_plan.specs.declared.plan.Level.{Level}
 use Rattle.sa_plan.specs.declared.plan.Plan.{Plan}
-use Rattle.sa_plan.specs.Chosen.{Chosen, choice_of}
+use Rattle.sa_plan.specs.Chosen.{Chosen, chosen_cell, choice_of}
 use Rattle.sa_plan.specs.Scan.{scan}
 use Rattle.sa_meaning.specs.Data.{RunData}
 
@@ -51,7 +51,7 @@ level_items tables select number (level ∷ levels) chosen =
     (λ row. row_items number
     (passes tables level.conditions (with_row level chosen row))
     (level_items tables select (number + 1) levels (with_row level chosen row)))
-    (scan level.access tables level.table chosen)
+    (scan level.access tables level.table (chosen_cell tables chosen))
 
 -- The whole run. Proofs of those who drive a run never open it.
 unfoldable pub items : Plan → RunData → List RunItem

@@ -1,5 +1,7 @@
 -- What a run is of, and how far it has come.
-use Rattle.std.specs.Prelude.{◌≡◌, ℕ, Bool, length, slice_get, IsSomeAnd, ⊤}
+use Rattle.std.specs.Prelude.{◌≡◌, ℕ, Bool, All, length, slice_get, IsSomeAnd, ⊤}
+use Rattle.sa_plan.specs.declared.access.Access.TheVariants as access
+use Rattle.sa_plan.specs.declared.plan.Level.{Level}
 use Rattle.sa_plan.specs.declared.plan.Plan.{Plan}
 use Rattle.sa_meaning.specs.Data.{RunData}
 use Rattle.sa_meaning.specs.Items.{RunItem, open_level, read_row, emit_row, items}
@@ -34,6 +36,7 @@ Emits (emit_row row) = ⊤
 unfoldable pub EmitsAt : Plan → RunData → ℕ → Type 0
 EmitsAt plan tables steps = IsSomeAnd (slice_get (items plan tables) steps) Emits
 
--- The plans that can be run today: those of one level.
-abbrev pub IsRunnable : Plan → Type 0
-IsRunnable plan = length plan.levels ≡ 1
+-- The plans that can be run today: those of one level, which reads its whole table by ALL.
+pub record IsRunnable (plan : Plan) : Type 0 where
+  pub one : length plan.levels ≡ 1
+  pub whole : All (λ (level : Level). level.access ≡ access.All) plan.levels

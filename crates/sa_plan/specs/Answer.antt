@@ -1,5 +1,5 @@
 -- Which answers preparing a statement may have.
-use Rattle.std.specs.Prelude.{ℕ, ⊤}
+use Rattle.std.specs.Prelude.{⊤}
 use Rattle.std.specs.declared.result.Result.{Result}
 use Rattle.std.specs.declared.result.Result.TheVariants.{Ok, Err}
 use Rattle.sa_query.specs.declared.refusal.Refusal.{Refusal}

@@ -1,3 +1,4 @@
+pub mod Access
 pub mod Answer
 pub mod Chosen
 pub mod Scan

@@ -1,3 +1,4 @@
+use crate::access::Access;
 use crate::shared::SharedPlan;
 use sa_cond::Conds;
 use sa_query::Items;
@@ -33,15 +34,6 @@ pub struct Level {
 
 /// The tables of a plan, the outermost first.
 pub type Levels = Sequence<Level>;
-
-/// Which rows of its table a level reads, and in which order.
-///
-/// Source of the names: MariaDB Knowledge Base, "EXPLAIN", its column `type`.
-#[derive(Clone, Copy, Debug, PartialEq, Eq)]
-pub enum Access {
-    /// All rows, by their numbers.
-    All,
-}
 
 /// What planning a query gives.
 #[derive(Debug, Drop)]

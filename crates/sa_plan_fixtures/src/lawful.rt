@@ -2,22 +2,30 @@ ghost use Rattle.std.specs.Prelude.{◌≡◌, ◌<◌, [], ◌∷◌, length, A
 ghost use Rattle.sa_cond.specs.Cited.{expr_names};
 ghost use Rattle.sa_cond.specs.Interval.{text, interval_of, expr_kind};
 ghost use Rattle.sa_cond.specs.Typed.{can_compare};
+ghost use Rattle.sa_plan.specs.declared.access.Access.TheVariants as access;
+ghost use Rattle.sa_plan.specs.declared.plan.Level.{Level as level};
 ghost use Rattle.sa_plan.specs.Lawful.{kinds_of, IsLawful, IsLawfulCond, IsLawfulExpr};
 ghost use Rattle.sa_plan_fixtures.specs.OnlyTable.{Sees};
 
 use crate::only_table::OnlyTable;
 use sa_cond::{CellKind, Cond, Expr, Kinds, interval};
-use sa_plan::Plan;
+use sa_plan::{Access, Plan};
 use sa_query::Item;
 use sa_table::Tables;
 use sa_value::Value;
 
-/// Whether the plan is of one level and fits the tables. It says no to one with arithmetic or IN.
+/// Whether the plan is of one level by ALL and fits the tables. It says no to one with arithmetic or
+/// IN.
 pub fn is_lawful(tables: &Tables, plan: &Plan) -> bool
     ensures lawful { IsTrue result → IsLawful tables.now plan.now }
     ensures one_level { IsTrue result → length plan.now.levels ≡ 1 }
+    ensures whole { IsTrue result
+        → All (λ (level : level). level.access ≡ access.All) plan.now.levels }
 {
     let [level] = plan.levels.as_slice() else {
+        return false;
+    };
+    let Access::All = level.access else {
         return false;
     };
     if level.table >= tables.len() {

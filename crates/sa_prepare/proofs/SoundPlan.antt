@@ -30,11 +30,16 @@ use Rattle.sa_query.specs.declared.query.TableUse.{TableUse}
 use Rattle.sa_query.specs.Kinds.{cells_of, column_cells, column_kinds, aggregate_cells, slot_cells, query_kinds}
 use Rattle.sa_query.specs.Meaning.{is_empty, does_group}
 use Rattle.sa_query.specs.WellTyped as query
+use Rattle.sa_plan.specs.declared.access.Access.TheVariants as access
 use Rattle.sa_plan.specs.declared.plan.Level.{Level}
 use Rattle.sa_plan.specs.Lawful.{column_kind, kinds_of, IsInSight, IsLawfulExpr, IsLawfulCond}
 use Rattle.sa_prepare.specs.PlanFor.{conditions_of, the_table, scan_level, plan_for, IsPlain}
 use Rattle.sa_prepare.specs.Sound.{IsSoundPlan}
 use Rattle.sa_prepare.proofs.Fits.{IsFit}
+
+-- The level reads its whole table.
+abbrev IsWhole : Level → Type 0
+IsWhole level = level.access ≡ access.All
 
 -- the members of an AND and any other condition
 module _ (tables : List Table) (levels : List Level) where
@@ -181,11 +186,15 @@ module _ (tables : List Table) (asked : Query) (plain : IsPlain asked) (fit : Is
         record {
           there = there;
           own_position = All-nil (λ (earlier : Level). earlier.position ≢ 0);
+          access = tt;
           conditions = conditions;
         },
         tt,
       );
       select = select;
     };
-    one = refl;
+    runnable = record {
+      one = refl;
+      whole = All-cons IsWhole level [] refl (All-nil IsWhole);
+    };
   }

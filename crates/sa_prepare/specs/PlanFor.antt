@@ -6,7 +6,7 @@ use Rattle.sa_simplify.specs.Simple.{simple}
 use Rattle.sa_table.specs.Table.{Table, row_count}
 use Rattle.sa_query.specs.declared.query.Query.{Query}
 use Rattle.sa_query.specs.declared.query.TableUse.{TableUse}
-use Rattle.sa_plan.specs.declared.plan.Access.TheVariants.{All}
+use Rattle.sa_plan.specs.declared.access.Access.TheVariants.{All}
 use Rattle.sa_plan.specs.declared.plan.Level.{Level}
 use Rattle.sa_plan.specs.declared.plan.Plan.{Plan}
 

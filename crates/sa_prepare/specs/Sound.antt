@@ -1,15 +1,16 @@
 -- What holds of the work of a statement that is ready to run.
-use Rattle.std.specs.Prelude.{◌≡◌, ⊤, ◌≤◌, ◌^◌, List, length}
+use Rattle.std.specs.Prelude.{⊤, ◌≤◌, ◌^◌, List}
 use Rattle.sa_table.specs.Table.{Table}
 use Rattle.sa_plan.specs.declared.plan.Plan.{Plan}
 use Rattle.sa_plan.specs.declared.prepared.Work.{Work}
 use Rattle.sa_plan.specs.declared.prepared.Work.TheVariants as work
 use Rattle.sa_plan.specs.Lawful.{IsLawful}
+use Rattle.sa_meaning.specs.Progress.{IsRunnable}
 
--- The plan is lawful for the tables, and has one level.
+-- The plan is lawful for the tables, and can be run today.
 pub record IsSoundPlan (tables : List Table) (plan : Plan) : Type 0 where
   pub lawful : IsLawful tables plan
-  pub one : length plan.levels ≡ 1
+  pub runnable : IsRunnable plan
 
 -- A plan is sound, and a limit of row steps is one that a statement may set.
 abbrev pub IsSoundWork : List Table → Work → Type 0

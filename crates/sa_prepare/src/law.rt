@@ -17,8 +17,8 @@ ghost use Rattle.sa_prepare.specs.Sound.{IsSoundWork};
 
 use sa_value::order_is_total;
 
-/// What a statement that is ready to run does can be done: its plan is lawful for the tables and has one
-/// level, and its limit of row steps is from 1 to 2^40.
+/// What a statement that is ready to run does can be done: its plan is lawful for the tables and can be
+/// run today, and its limit of row steps is from 1 to 2^40.
 pub fn prepared_is_sound()
     ensures { (tables : List Table) (text : List ℕ) (prepared : Prepared) →
         Prepares tables text (Ok prepared) → IsSoundWork tables prepared.work }

@@ -28,9 +28,9 @@ sound_built tables text law (Err why) may = tt
 
 sound_work : (given : Given) (text : List ℕ) (does : Work) → IsSoundWork given.tables does →
     IsSoundAnswer given (prepared text does)
-sound_work given text (work.Select planned) sound = record { lawful = sound.lawful; runnable = sound.one }
+sound_work given text (work.Select planned) sound = record { lawful = sound.lawful; runnable = sound.runnable }
 sound_work given text (work.Explain planned) sound = tt
-sound_work given text (work.Analyze planned) sound = record { lawful = sound.lawful; runnable = sound.one }
+sound_work given text (work.Analyze planned) sound = record { lawful = sound.lawful; runnable = sound.runnable }
 sound_work given text (work.Show kind id) sound = tt
 sound_work given text (work.Kill kind id) sound = tt
 sound_work given text (work.SetTrace on) sound = tt

@@ -4,7 +4,7 @@ use Rattle.sa_value.specs.declared.value.Value.TheVariants.{Int}
 use Rattle.sa_count.specs.declared.report.Report.{Report}
 use Rattle.sa_cond.specs.declared.expr.Expr.TheVariants.{Column}
 use Rattle.sa_table.specs.declared.def.TableDef.{TableDef}
-use Rattle.sa_plan.specs.declared.plan.Access.TheVariants as access
+use Rattle.sa_plan.specs.declared.access.Access.TheVariants as access
 use Rattle.sa_plan.specs.declared.plan.Plan.{Plan}
 use Rattle.sa_meaning.specs.Data.{RunData}
 use Rattle.sa_desk.specs.declared.entry.Entry.{Entry}

@@ -5,7 +5,7 @@ use Rattle.sa_count.specs.declared.counters.Counters.{Counters}
 use Rattle.sa_value.specs.declared.value.Value.{Value}
 use Rattle.sa_query.specs.declared.item.Item.{Item}
 use Rattle.sa_table.specs.Table.{row_count}
-use Rattle.sa_plan.specs.declared.plan.Access.TheVariants.{All}
+use Rattle.sa_plan.specs.declared.access.Access.TheVariants.{All}
 use Rattle.sa_plan.specs.declared.plan.Level.{Level}
 use Rattle.sa_plan.specs.declared.plan.Plan.{Plan}
 use Rattle.sa_meaning.specs.Data.{RunData}

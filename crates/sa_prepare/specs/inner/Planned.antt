@@ -8,7 +8,7 @@ use Rattle.sa_query.specs.declared.item.Item.{Item}
 use Rattle.sa_query.specs.declared.query.Query.{Query}
 use Rattle.sa_query.specs.declared.query.TableUse.{TableUse}
 use Rattle.sa_resolve.specs.Resolved.{IsQueryOf}
-use Rattle.sa_plan.specs.declared.plan.Access.TheVariants as access
+use Rattle.sa_plan.specs.declared.access.Access.TheVariants as access
 use Rattle.sa_plan.specs.declared.plan.Plan.{Plan}
 use Rattle.sa_prepare.specs.PlanFor.{conditions_of, scan_cost}
 

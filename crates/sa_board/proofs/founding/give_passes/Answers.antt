@@ -1,4 +1,4 @@
-use Rattle.std.proofs.Common.{◌≡◌, ℕ, ◌+◌, ◌-◌, List, [], ◌∷◌, ◌++◌, length, map, None, false, sym, ap, ap₂, subst, ◌∙◌, arith}
+use Rattle.std.proofs.Common.{◌≡◌, ℕ, suc, ◌+◌, ◌-◌, List, [], ◌∷◌, ◌++◌, length, map, None, false, sym, ap, ap₂, subst, ◌∙◌, arith}
 use Rattle.std.specs.List.{range_with_len}
 use Rattle.std.proofs.lemmas.List.FromFn.{map-range_with_len_more, length-map-range_with_len}
 use Rattle.atomic_table.specs.Seated.{TableId}
@@ -6,6 +6,8 @@ use Rattle.sa_desk.specs.Contents.{Contents}
 use Rattle.sa_desk.specs.New.{AreNew}
 use Rattle.sa_board.specs.Board.{BoardState, new_pass}
 use Rattle.sa_board.specs.Pass.{PassState}
+use Rattle.sa_board.specs.Steps.{Sitter}
+use Rattle.sa_board.specs.inner.Pass.{one_of}
 use Rattle.sa_board.proofs.Passes.{first_seat, IsFounder-first, first-more, new-met}
 use Rattle.sa_board.proofs.step.Split.{splits_seat}
 use Rattle.sa_board.proofs.founding.give_passes.Goals as goal
@@ -56,3 +58,22 @@ loop-session-preserved c =
           ∙ ap (λ (n : ℕ). map (new_pass board) (range_with_len 2 n)) (let same : session - 2 + 1 ≡ session + 1 - 2 = omega arith in same);
       room = c.push_reserved.ensures.capacity ∙ c.loop-session.invariant.room;
     }
+
+-- The first seat's pass is put before those of the others.
+pub returns : goal.returns
+returns c =
+    let board = c.args.board.now in
+    let session = c.loop-session.session in
+    let founded = ap (λ (b : BoardState). length b.founded) c.board.view_is in
+    let is = c.board.invariant in
+    let least = c.loop-session.auto.session in
+    let most = c.loop-session.auto.session-end in
+    let over = c.loop-session-test.false in
+    let count : length board.founded ≡ suc (session - 2) = omega arith in
+    let met : (one_of c.loop-session.first.me.0).met ≡ board.founded =
+    ap (λ (seat : Sitter). (one_of seat.0).met) c.loop-session.invariant.first in
+    let pass : c.of-2.result ≡ new_pass board 1 =
+    c.of-2.ensures ∙ ap₂ (λ (t : TableId) (m : List Contents). let p : PassState = record { table = t; session = 1; met = m; mine = []; out = 0; desk = None; called = false } in p) (c.loop-session.invariant.table ∙ c.requires.table) met in
+    c.in_ok-insert.ensures.items
+    ∙ ap₂ (λ (one : PassState) (list : List PassState). one ∷ list) pass c.loop-session.invariant.others
+    ∙ sym (ap (λ (n : ℕ). map (new_pass board) (range_with_len 1 n)) count)
