@@ -1,22 +1,36 @@
 -- No document has a float.
-use Rattle.std.proofs.Common.{◌≡◌, ℕ, ◌*◌, ◌/◌, ◌==◌, Bool, true, false, ◌||◌, List, [], ◌∷◌, map, codes, Option, Some, None, Ordering, refl, if◌then◌else◌}
+use Rattle.std.proofs.Common.{◌≡◌, ℕ, ◌*◌, ◌/◌, ◌==◌, Bool, true, false, ◌||◌, List, [], ◌∷◌, map, codes, length, Option, Some, None, Ordering, pos, negsuc, refl, if◌then◌else◌}
 use Rattle.std.specs.Ordering.{nat_cmp, match_ordering}
 use Rattle.std.specs.declared.cmp.Ordering.TheVariants.{Less, Equal, Greater}
 use Rattle.std.specs.Cmp.Lexicographic.{slice_cmp}
 use Rattle.std.specs.Fmt.{decimal}
 use Rattle.std.specs.List.{enumerate_from}
-use Rattle.serde_json.specs.Data.{Data, null, string, object, Members, no_members, member, put}
+use Rattle.serde_json.specs.Data.{Data, null, string, array, object, Members, no_members, member, put}
 use Rattle.serde_json.specs.View.{items_of}
 use Rattle.serde_json.specs.Written.{has_float, items_have_float, members_have_float}
+use Rattle.sa_value.specs.declared.value.Value.{Value}
+use Rattle.sa_value.specs.declared.value.Value.TheVariants.{Null, Int, Big, Text}
+use Rattle.sa_key.specs.declared.cut.Cut.{Cut}
+use Rattle.sa_key.specs.declared.range.KeyRange.{KeyRange}
+use Rattle.sa_interval.specs.declared.list.RangeList.{RangeList}
 use Rattle.sa_print.specs.Lists.{joined}
 use Rattle.sa_cond.specs.declared.cond.Cond.{Cond}
 use Rattle.sa_count.specs.declared.counters.Counters.{Counters}
 use Rattle.sa_count.specs.declared.report.Report.{Report}
+use Rattle.sa_plan.specs.declared.access.Access.{Access}
+use Rattle.sa_plan.specs.declared.access.Access.TheVariants as accesses
+use Rattle.sa_plan.specs.declared.access.RefPart.{RefPart}
 use Rattle.sa_plan.specs.declared.names.TableNames.{TableNames}
 use Rattle.sa_plan.specs.declared.plan.Level.{Level}
 use Rattle.sa_plan.specs.declared.plan.Plan.{Plan}
-use Rattle.sa_explain.specs.Written.{cond_text}
-use Rattle.sa_explain.specs.Document.{count, two_decimals, quotient, access_name, with_condition, with_counters, level_members, level_data, counters_at, with_steps, nested_loop, block_members, document}
+use Rattle.sa_plan.specs.Access.{kind_of}
+use Rattle.sa_plan.specs.Lawful.{expr_of}
+use Rattle.sa_plan.specs.Names.{key_name}
+use Rattle.sa_explain.specs.Access.{kind_name, side_name, cut_data, range_data, sought_data, with_key, with_sought, with_access}
+use Rattle.sa_explain.specs.Number.{count, two_decimals, quotient}
+use Rattle.sa_explain.specs.Values.{value_data, values_data}
+use Rattle.sa_explain.specs.Written.{expr_text, cond_text}
+use Rattle.sa_explain.specs.Document.{with_condition, with_counters, level_members, level_data, counters_at, with_steps, nested_loop, block_members, document}
 
 abbrev pub Exact : Members → Type 0
 Exact others = members_have_float others ≡ false
@@ -45,6 +59,65 @@ exact-quotient hundredths divisor =
       | false ↦ refl
     ]
 
+pub exact-items : {A : Type 0} (f : A → Data) → ((x : A) → has_float (f x) ≡ false) → (xs : List A) → items_have_float (items_of (map f xs)) ≡ false
+exact-items f each [] = refl
+exact-items f each (x ∷ xs) = rw (each x) (exact-items f each xs)
+
+exact-value : (value : Value) → has_float (value_data value) ≡ false
+exact-value Null = refl
+exact-value (Int (pos n)) = refl
+exact-value (Int (negsuc n)) = refl
+exact-value (Big n) = refl
+exact-value (Text text) = refl
+
+pub values_are_exact : (values : List Value) → has_float (values_data values) ≡ false
+values_are_exact values = exact-items value_data exact-value values
+
+exact-cut : (cut : Cut) → has_float (cut_data cut) ≡ false
+exact-cut cut =
+    let with_values : Members = put (codes "values") (values_data cut.tuple) no_members in
+    let at_values : Exact with_values = exact-put (codes "values") (values_data cut.tuple) no_members (values_are_exact cut.tuple) refl in
+    exact-put (codes "side") (string (side_name cut.side)) with_values refl at_values
+
+exact-range : (range : KeyRange) → has_float (range_data range) ≡ false
+exact-range range =
+    let with_to : Members = put (codes "to") (cut_data range.to) no_members in
+    let at_to : Exact with_to = exact-put (codes "to") (cut_data range.to) no_members (exact-cut range.to) refl in
+    exact-put (codes "from") (cut_data range.from) with_to (exact-cut range.from) at_to
+
+exact-key : (names : List TableNames) (table key : ℕ) (others : Members) → Exact others → Exact (with_key names table key others)
+exact-key names table key others all = exact-put (codes "key") (string (key_name names table key)) others refl all
+
+exact-sought : (names : List TableNames) (levels : List Level) (table key : ℕ) (from : List RefPart) (others : Members)
+    → Exact others → Exact (with_sought names levels table key from others)
+exact-sought names levels table key from others all =
+    let sought : Data = sought_data names levels from in
+    let sought_is : has_float sought ≡ false = exact-items (λ part. string (expr_text names levels (expr_of part))) (λ part. refl) from in
+    let with_ref : Members = put (codes "ref") sought others in
+    let with_parts : Members = put (codes "key_parts") (count (length from)) with_ref in
+    let at_ref : Exact with_ref = exact-put (codes "ref") sought others sought_is all in
+    let at_parts : Exact with_parts = exact-put (codes "key_parts") (count (length from)) with_ref refl at_ref in
+    exact-key names table key with_parts at_parts
+
+exact-ranges : (names : List TableNames) (levels : List Level) (table key : ℕ) (list : RangeList) (others : Members)
+    → Exact others → Exact (with_access names levels table (accesses.Range key list) others)
+exact-ranges names levels table key list others all =
+    let ranges : Data = array (items_of (map range_data list.ranges)) in
+    let with_ranges : Members = put (codes "ranges") ranges others in
+    let with_parts : Members = put (codes "key_parts") (count list.parts) with_ranges in
+    let at_ranges : Exact with_ranges = exact-put (codes "ranges") ranges others (exact-items range_data exact-range list.ranges) all in
+    let at_parts : Exact with_parts = exact-put (codes "key_parts") (count list.parts) with_ranges refl at_ranges in
+    exact-key names table key with_parts at_parts
+
+exact-access : (names : List TableNames) (levels : List Level) (table : ℕ) (access : Access) (others : Members)
+    → Exact others → Exact (with_access names levels table access others)
+exact-access names levels table accesses.All others all = all
+exact-access names levels table (accesses.Index key) others all = exact-key names table key others all
+exact-access names levels table (accesses.Range key list) others all = exact-ranges names levels table key list others all
+exact-access names levels table (accesses.Ref key from) others all = exact-sought names levels table key from others all
+exact-access names levels table (accesses.EqRef key from) others all = exact-sought names levels table key from others all
+exact-access names levels table (accesses.Const key from) others all = exact-sought names levels table key from others all
+
 exact-condition : (names : List TableNames) (levels : List Level) (conditions : List Cond) (others : Members)
     → Exact others → Exact (with_condition names levels conditions others)
 exact-condition names levels [] others all = all
@@ -71,21 +144,19 @@ exact-level : (names : List TableNames) (levels : List Level) (level : Level) (c
 exact-level names levels level counters =
     let with_name : Members = put (codes "table_name") (string level.alias) no_members in
     let with_estimate : Members = put (codes "rows") (count level.estimate) with_name in
-    let with_access : Members = put (codes "access_type") (string (access_name level.access)) with_estimate in
+    let with_kind : Members = put (codes "access_type") (string (kind_name (kind_of level.access))) with_estimate in
+    let with_reading : Members = with_access names levels level.table level.access with_kind in
     let at_name : Exact with_name = exact-put (codes "table_name") (string level.alias) no_members refl refl in
     let at_estimate : Exact with_estimate = exact-put (codes "rows") (count level.estimate) with_name refl at_name in
-    let at_access : Exact with_access = exact-put (codes "access_type") (string (access_name level.access)) with_estimate refl at_estimate in
-    exact-counters counters (with_condition names levels level.conditions with_access)
-    (exact-condition names levels level.conditions with_access at_access)
+    let at_kind : Exact with_kind = exact-put (codes "access_type") (string (kind_name (kind_of level.access))) with_estimate refl at_estimate in
+    let at_reading : Exact with_reading = exact-access names levels level.table level.access with_kind at_kind in
+    exact-counters counters (with_condition names levels level.conditions with_reading)
+    (exact-condition names levels level.conditions with_reading at_reading)
 
 exact-level_data : (names : List TableNames) (levels : List Level) (level : Level) (counters : Option Counters)
     → has_float (level_data names levels level counters) ≡ false
 exact-level_data names levels level counters =
     exact-put (codes "table") (object (level_members names levels level counters)) no_members (exact-level names levels level counters) refl
-
-pub exact-items : {A : Type 0} (f : A → Data) → ((x : A) → has_float (f x) ≡ false) → (xs : List A) → items_have_float (items_of (map f xs)) ≡ false
-exact-items f each [] = refl
-exact-items f each (x ∷ xs) = rw (each x) (exact-items f each xs)
 
 exact-nested_loop : (names : List TableNames) (levels : List Level) (report : Option Report) → has_float (nested_loop names levels report) ≡ false
 exact-nested_loop names levels report =

@@ -1,9 +1,9 @@
 -- The document of a plan, and of a run of it.
 -- Source of the names: MariaDB Knowledge Base, "EXPLAIN FORMAT=JSON" and "ANALYZE FORMAT=JSON".
-use Rattle.std.specs.Prelude.{◌≡◌, ℕ, ◌*◌, ◌/◌, ◌%◌, ◌==◌, List, [], ◌∷◌, ◌++◌, map, codes, slice_get, Option, None, Some, option_and_then, if◌then◌else◌}
+use Rattle.std.specs.Prelude.{◌≡◌, ℕ, ◌*◌, List, [], ◌∷◌, map, codes, slice_get, Option, None, Some, option_and_then}
 use Rattle.std.specs.Fmt.{decimal}
 use Rattle.std.specs.List.{enumerate_from}
-use Rattle.serde_json.specs.Data.{Data, unsigned, null, number, string, array, object, Members, put, no_members}
+use Rattle.serde_json.specs.Data.{Data, string, array, object, Members, put, no_members}
 use Rattle.serde_json.specs.View.{items_of}
 use Rattle.sa_print.specs.Lists.{joined}
 use Rattle.sa_cond.specs.declared.cond.Cond.{Cond}
@@ -11,31 +11,14 @@ use Rattle.sa_count.specs.declared.counters.Counters.{Counters}
 use Rattle.sa_count.specs.declared.report.Report.{Report}
 use Rattle.sa_table.specs.Table.{Table}
 use Rattle.sa_plan.specs.declared.names.TableNames.{TableNames}
-use Rattle.sa_plan.specs.declared.plan.Access.{Access}
-use Rattle.sa_plan.specs.declared.plan.Access.TheVariants.{All}
 use Rattle.sa_plan.specs.declared.plan.Level.{Level}
 use Rattle.sa_plan.specs.declared.plan.Plan.{Plan}
+use Rattle.sa_plan.specs.Access.{kind_of}
 use Rattle.sa_plan.specs.Lawful.{IsLawful}
 use Rattle.sa_plan.specs.Names.{names_of}
+use Rattle.sa_explain.specs.Access.{kind_name, with_access}
+use Rattle.sa_explain.specs.Number.{count, quotient}
 use Rattle.sa_explain.specs.Written.{cond_text}
-
--- a number that counts
-abbrev pub count : ℕ → Data
-count n = number (unsigned n)
-
--- a number of hundredths, with two decimals
-abbrev pub two_decimals : ℕ → List ℕ
-two_decimals hundredths = decimal (hundredths / 100) ++ codes "." ++ decimal (hundredths / 10 % 10)
-    ++ decimal (hundredths % 10)
-
--- A quotient of so many hundredths, cut down to two decimals; null where the divisor is 0.
-abbrev pub quotient : (hundredths divisor : ℕ) → Data
-quotient hundredths divisor =
-    if divisor == 0 then null else string (two_decimals (hundredths / divisor))
-
--- how an access is called
-abbrev pub access_name : Access → List ℕ
-access_name All = codes "ALL"
 
 -- the members with the condition of a level, where it has one
 abbrev pub with_condition : List TableNames → List Level → List Cond → Members → Members
@@ -56,15 +39,17 @@ with_counters (Some counters) members =
     (put (codes "r_total_rows") (count counters.rows)
     members))))
 
--- A level: its access, its condition, what was counted, the rows it is reckoned to give, and its alias.
+-- A level: its access and what that reads by, its condition, what was counted, the rows it is
+-- reckoned to give, and its alias.
 abbrev pub level_members : List TableNames → List Level → Level → Option Counters → Members
 level_members names levels level counters =
     with_counters counters
     (with_condition names levels level.conditions
-    (put (codes "access_type") (string (access_name level.access))
+    (with_access names levels level.table level.access
+    (put (codes "access_type") (string (kind_name (kind_of level.access)))
     (put (codes "rows") (count level.estimate)
     (put (codes "table_name") (string level.alias)
-    no_members))))
+    no_members)))))
 
 abbrev pub level_data : List TableNames → List Level → Level → Option Counters → Data
 level_data names levels level counters =

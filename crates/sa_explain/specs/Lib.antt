@@ -1,2 +1,5 @@
+pub mod Number
+pub mod Values
 pub mod Written
+pub mod Access
 pub mod Document

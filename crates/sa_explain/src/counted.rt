@@ -2,7 +2,8 @@
 ghost use Rattle.std.specs.Prelude.{◌≡◌, Some, IfOk, OnOk, string_bytes};
 ghost use Rattle.std.specs.Option.{option_copied};
 ghost use Rattle.serde_json.specs.View.{view, members_view};
-ghost use Rattle.sa_explain.specs.Document.{quotient, two_decimals, with_counters, with_steps};
+ghost use Rattle.sa_explain.specs.Document.{with_counters, with_steps};
+ghost use Rattle.sa_explain.specs.Number.{quotient, two_decimals};
 
 use sa_count::{Counters, Report};
 use serde_json::{Map, Value as Json, put};

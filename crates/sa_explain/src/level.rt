@@ -1,13 +1,15 @@
 ghost use Rattle.std.specs.Prelude.{◌≡◌, IfOk, OnOk};
 ghost use Rattle.serde_json.specs.Data.{object, put as with_member, no_members};
 ghost use Rattle.serde_json.specs.View.{view, members_view};
-ghost use Rattle.sa_explain.specs.Document.{access_name, level_data, with_condition};
+ghost use Rattle.sa_explain.specs.Access.{kind_name};
+ghost use Rattle.sa_explain.specs.Document.{level_data, with_condition};
 
+use crate::access::put_access;
 use crate::condition::conditions_text;
 use crate::counted::put_counters;
 use sa_cond::Cond;
 use sa_count::Counters;
-use sa_plan::{Access, Level, Names};
+use sa_plan::{AccessKind, Level, Names};
 use sa_value::OutOfMemory;
 use serde_json::{Map, Value as Json, put};
 use std::alloc::{AllocError, Global};
@@ -26,8 +28,16 @@ pub(crate) fn level_json(
     let alias = Json::try_from_str(alloc, level.alias.as_str())?;
     put(&mut members, alloc, "table_name", alias)?;
     put(&mut members, alloc, "rows", Json::from(level.estimate))?;
-    let access = Json::try_from_str(alloc, access_name(level.access))?;
-    put(&mut members, alloc, "access_type", access)?;
+    let kind = Json::try_from_str(alloc, kind_name(level.access.kind()))?;
+    put(&mut members, alloc, "access_type", kind)?;
+    put_access(
+        alloc,
+        &mut members,
+        names,
+        levels,
+        level.table,
+        &level.access,
+    )?;
     put_conditions(
         alloc,
         &mut members,
@@ -68,11 +78,16 @@ fn put_conditions(
     }
 }
 
-/// How an access is called.
-fn access_name(access: Access) -> &'static str
-    ensures { result.now ≡ access_name access }
+/// How a kind of access is called.
+fn kind_name(kind: AccessKind) -> &'static str
+    ensures { result.now ≡ kind_name kind }
 {
-    match access {
-        Access::All => "ALL",
+    match kind {
+        AccessKind::All => "ALL",
+        AccessKind::Index => "index",
+        AccessKind::Range => "range",
+        AccessKind::Ref => "ref",
+        AccessKind::EqRef => "eq_ref",
+        AccessKind::Const => "const",
     }
 }

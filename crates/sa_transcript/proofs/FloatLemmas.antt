@@ -1,18 +1,19 @@
 -- No line has a float.
-use Rattle.std.proofs.Common.{◌≡◌, ℕ, false, List, map, length, codes, Option, Some, None, pos, negsuc, refl}
+use Rattle.std.proofs.Common.{◌≡◌, ℕ, false, List, map, length, codes, Option, Some, None, refl}
 use Rattle.serde_json.specs.Data.{Data, boolean, string, array, object, Members, no_members, put}
 use Rattle.serde_json.specs.View.{items_of}
 use Rattle.serde_json.specs.Written.{has_float}
 use Rattle.sa_value.specs.declared.value.Value.{Value}
-use Rattle.sa_value.specs.declared.value.Value.TheVariants.{Null, Int, Big, Text}
 use Rattle.sa_count.specs.declared.counters.Counters.{Counters}
 use Rattle.sa_count.specs.declared.report.Report.{Report}
 use Rattle.sa_query.specs.declared.refusal.Refusal.{Refusal}
 use Rattle.sa_query.specs.declared.refusal.Refusal.TheVariants as refusal
 use Rattle.sa_plan.specs.declared.names.TableNames.{TableNames}
 use Rattle.sa_plan.specs.declared.plan.Plan.{Plan}
-use Rattle.sa_explain.specs.Document.{count, document}
-use Rattle.sa_explain.proofs.Exact.{Exact, exact-put, exact-items, document_is_exact}
+use Rattle.sa_explain.specs.Document.{document}
+use Rattle.sa_explain.specs.Number.{count}
+use Rattle.sa_explain.specs.Values.{values_data}
+use Rattle.sa_explain.proofs.Exact.{Exact, exact-put, exact-items, values_are_exact, document_is_exact}
 use Rattle.sa_script.specs.Fault.{Fault}
 use Rattle.sa_desk.specs.declared.entry.Entry.{Entry}
 use Rattle.sa_desk.specs.declared.entry.Event.{Event}
@@ -22,7 +23,6 @@ use Rattle.sa_desk.specs.declared.outcome.Outcome.TheVariants as outcome
 use Rattle.sa_transcript.specs.Names.{lex_name, resolve_name, ask_name, kill_name, why_name}
 use Rattle.sa_transcript.specs.Outcome.{trace_data, plan_begun, shown_report, shown_data, refusal_members, outcome_data}
 use Rattle.sa_transcript.specs.Line.{has_plan, counters_data, report_data, event_name, with_event, entry_data}
-use Rattle.sa_transcript.specs.Transcript.{value_data}
 use Rattle.sa_transcript.specs.FaultLine.{kind_name, with_row, fault_data}
 use Rattle.sa_transcript.specs.inner.Told.{OutcomeIsTold, EventIsTold}
 
@@ -42,15 +42,8 @@ and_count key n sure = and_member key (count n) refl sure
 abbrev and_text : List ℕ → List ℕ → Sure → Sure
 and_text key text sure = and_member key (string text) refl sure
 
-exact-value : (value : Value) → has_float (value_data value) ≡ false
-exact-value Null = refl
-exact-value (Int (pos n)) = refl
-exact-value (Int (negsuc n)) = refl
-exact-value (Big n) = refl
-exact-value (Text text) = refl
-
-pub row_is_exact : (row : List Value) → has_float (object (put (codes "row") (array (items_of (map value_data row))) no_members)) ≡ false
-row_is_exact row = exact-put (codes "row") (array (items_of (map value_data row))) no_members (exact-items value_data exact-value row) refl
+pub row_is_exact : (row : List Value) → has_float (object (put (codes "row") (values_data row) no_members)) ≡ false
+row_is_exact row = exact-put (codes "row") (values_data row) no_members (values_are_exact row) refl
 
 exact-counters : (counters : Counters) → has_float (counters_data counters) ≡ false
 exact-counters counters = (and_count (codes "loops") counters.loops (and_count (codes "passed") counters.passed (and_count (codes "rows") counters.rows none))).1

@@ -1,7 +1,7 @@
 -- The line that tells why a text is no script.
 use Rattle.std.specs.Prelude.{ℕ, List, codes, Option, None, Some}
 use Rattle.serde_json.specs.Data.{Data, string, object, Members, put, no_members}
-use Rattle.sa_explain.specs.Document.{count}
+use Rattle.sa_explain.specs.Number.{count}
 use Rattle.sa_script.specs.declared.fault.ScriptKind.{ScriptKind}
 use Rattle.sa_script.specs.declared.fault.ScriptKind.TheVariants as script
 use Rattle.sa_script.specs.Fault.{Fault}

@@ -6,7 +6,7 @@ use Rattle.sa_count.specs.declared.counters.Counters.{Counters}
 use Rattle.sa_count.specs.declared.report.Report.{Report}
 use Rattle.sa_plan.specs.declared.names.TableNames.{TableNames}
 use Rattle.sa_plan.specs.declared.plan.Plan.{Plan}
-use Rattle.sa_explain.specs.Document.{count}
+use Rattle.sa_explain.specs.Number.{count}
 use Rattle.sa_desk.specs.declared.entry.Entry.{Entry}
 use Rattle.sa_desk.specs.declared.entry.Event.{Event}
 use Rattle.sa_desk.specs.declared.entry.Event.TheVariants.{Begin, Queued, Refused, Served, Taken, Spent, Withdrawn, KillSent, Waited, WaitSpent, End, Gone, Close}

@@ -10,7 +10,8 @@ use Rattle.sa_query.specs.declared.refusal.Refusal.{Refusal}
 use Rattle.sa_query.specs.declared.refusal.Refusal.TheVariants as refusal
 use Rattle.sa_plan.specs.declared.names.TableNames.{TableNames}
 use Rattle.sa_plan.specs.declared.plan.Plan.{Plan}
-use Rattle.sa_explain.specs.Document.{count, document}
+use Rattle.sa_explain.specs.Document.{document}
+use Rattle.sa_explain.specs.Number.{count}
 use Rattle.sa_desk.specs.declared.entry.Entry.{Entry}
 use Rattle.sa_desk.specs.declared.entry.Event.{Event}
 use Rattle.sa_desk.specs.declared.entry.Event.TheVariants.{Begin}

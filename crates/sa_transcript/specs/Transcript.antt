@@ -1,20 +1,17 @@
 -- What is printed for journals: a line for each entry, session by session, each row behind the line
 -- of its End, and a last line.
-use Rattle.std.specs.Prelude.{◌≡◌, ℕ, true, ⊤, All, List, [], ◌∷◌, ◌++◌, map, length, codes, None, Some}
+use Rattle.std.specs.Prelude.{◌≡◌, ℕ, true, ⊤, All, List, [], ◌∷◌, ◌++◌, length, codes, None, Some}
 use Rattle.std.specs.List.{flat_map}
-use Rattle.std.specs.Fmt.{signed_decimal}
-use Rattle.serde_json.specs.Data.{Data, null, boolean, number, string, array, object, put, no_members}
-use Rattle.serde_json.specs.Find.{of_integer}
-use Rattle.serde_json.specs.View.{items_of}
+use Rattle.serde_json.specs.Data.{Data, boolean, object, put, no_members}
 use Rattle.serde_json.specs.Written.{compact_text}
 use Rattle.sa_value.specs.declared.value.Value.{Value}
-use Rattle.sa_value.specs.declared.value.Value.TheVariants.{Null, Int, Big, Text}
 use Rattle.sa_count.specs.declared.report.Report.{Report}
 use Rattle.sa_table.specs.Table.{Table}
 use Rattle.sa_plan.specs.declared.names.TableNames.{TableNames}
 use Rattle.sa_plan.specs.declared.plan.Plan.{Plan}
 use Rattle.sa_plan.specs.Lawful.{IsLawful}
 use Rattle.sa_plan.specs.Names.{names_of}
+use Rattle.sa_explain.specs.Values.{values_data}
 use Rattle.sa_desk.specs.declared.entry.Entry.{Entry}
 use Rattle.sa_desk.specs.declared.entry.Event.{Event}
 use Rattle.sa_desk.specs.declared.entry.Event.TheVariants.{End}
@@ -27,15 +24,8 @@ use Rattle.sa_transcript.specs.Outcome.{plan_begun}
 unfoldable pub line_of : Data → List ℕ
 line_of value = compact_text value ++ 10 ∷ []
 
--- A value of a row. A sum, whose digits a reader of JSON may not keep, is a text of them.
-abbrev pub value_data : Value → Data
-value_data Null = null
-value_data (Int n) = number (of_integer n)
-value_data (Big n) = string (signed_decimal n)
-value_data (Text text) = string text
-
 abbrev pub row_line : List Value → List ℕ
-row_line row = line_of (object (put (codes "row") (array (items_of (map value_data row))) no_members))
+row_line row = line_of (object (put (codes "row") (values_data row) no_members))
 
 -- the rows that a statement's End tells
 abbrev pub rows_in : Event → List (List Value)

@@ -2,7 +2,7 @@ ghost use Rattle.std.specs.Prelude.{◌≡◌, List, OnOk, codes};
 ghost use Rattle.serde_json.specs.Data.{boolean, string};
 ghost use Rattle.serde_json.specs.Data.{put as with_member};
 ghost use Rattle.serde_json.specs.View.{view, members_view};
-ghost use Rattle.sa_explain.specs.Document.{count};
+ghost use Rattle.sa_explain.specs.Number.{count};
 ghost use Rattle.sa_plan.specs.declared.names.TableNames.{TableNames};
 ghost use Rattle.sa_desk.specs.declared.entry.Entry.{Entry};
 ghost use Rattle.sa_transcript.specs.Line.{of_statement, report_data, with_event};

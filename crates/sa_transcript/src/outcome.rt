@@ -3,7 +3,7 @@ ghost use Rattle.std.specs.Option.{option_copied};
 ghost use Rattle.serde_json.specs.Data.{array, object, string, no_members};
 ghost use Rattle.serde_json.specs.Data.{put as with_member};
 ghost use Rattle.serde_json.specs.View.{view, members_view, items_of};
-ghost use Rattle.sa_explain.specs.Document.{count};
+ghost use Rattle.sa_explain.specs.Number.{count};
 ghost use Rattle.sa_transcript.specs.Outcome.{because, because_at, of_kind, outcome_data, plan_begun, plan_in, refusal_members, shown_data, shown_report};
 ghost use Rattle.sa_transcript.specs.inner.Told.{OutcomeIsTold, ShownIsTold};
 

@@ -1,12 +1,14 @@
-ghost use Rattle.std.specs.Prelude.{◌≡◌, ◌++◌, codes, map, IfOk, OnOk, false};
+ghost use Rattle.std.specs.Prelude.{◌≡◌, ◌++◌, codes, IfOk, OnOk, false};
 ghost use Rattle.std.specs.List.{flat_map};
-ghost use Rattle.serde_json.specs.Data.{array, boolean, object, no_members};
+ghost use Rattle.serde_json.specs.Data.{boolean, object, no_members};
 ghost use Rattle.serde_json.specs.Data.{put as with_member};
-ghost use Rattle.serde_json.specs.View.{view, items_of};
+ghost use Rattle.serde_json.specs.View.{view};
 ghost use Rattle.serde_json.specs.Written.{has_float};
-ghost use Rattle.sa_transcript.specs.Transcript.{done_line, line_of, row_line, value_data};
+ghost use Rattle.sa_explain.specs.Values.{values_data};
+ghost use Rattle.sa_transcript.specs.Transcript.{done_line, line_of, row_line};
 
 use crate::object::Members;
+use sa_explain::values_json;
 use sa_value::{OutOfMemory, Row, Value};
 use serde_json::{Value as Json, put};
 use std::alloc::Global;
@@ -46,33 +48,10 @@ pub fn push_done(alloc: Global, text: &mut Vec<u8>) -> Result<(), OutOfMemory>
 /// A row.
 fn row_value(alloc: Global, row: &[Value]) -> Result<Json, OutOfMemory>
     ensures { IfOk result (λ json. view json
-        ≡ object (with_member (codes "row") (array (items_of (map value_data row.now))) no_members)) }
+        ≡ object (with_member (codes "row") (values_data row.now) no_members)) }
 {
     let mut members = Members::new(alloc);
-    let values = values_value(alloc, row)?;
+    let values = values_json(alloc, row)?;
     put(&mut members, alloc, "row", values)?;
     Ok(Json::Object(members))
-}
-
-/// The values of a row.
-fn values_value(alloc: Global, row: &[Value]) -> Result<Json, OutOfMemory>
-    ensures { IfOk result (λ json. view json ≡ array (items_of (map value_data row.now))) }
-{
-    let mut items = Vec::new(alloc);
-    for value in row {
-        items.push(value_json(alloc, value)?)?;
-    }
-    Ok(Json::Array(items))
-}
-
-/// A value of a row. A sum is a text of digits, since JSON's readers may not hold its 128 bits.
-fn value_json(alloc: Global, value: &Value) -> Result<Json, OutOfMemory>
-    ensures { IfOk result (λ json. view json ≡ value_data value.now) }
-{
-    Ok(match value {
-        Value::Null => Json::Null,
-        Value::Int(number) => Json::from(*number),
-        Value::Big(number) => Json::from(number.to_string(alloc)?),
-        Value::Text(text) => Json::try_from_str(alloc, text.as_str())?,
-    })
 }
