@@ -1,0 +1,10 @@
+mod Conjuncts
+mod CountLemmas
+mod CoverLemmas
+mod Equalities
+mod Keeping
+mod LeastLemmas
+mod OfferLemmas
+mod OrderLemmas
+mod Short
+mod SoughtLemmas

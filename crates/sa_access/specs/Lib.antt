@@ -1,0 +1,5 @@
+pub mod Asked
+pub mod Sought
+pub mod Offered
+pub mod Least
+pub mod inner
