@@ -1,0 +1,4 @@
+mod Between
+mod Equal
+mod Ranges
+mod Left
