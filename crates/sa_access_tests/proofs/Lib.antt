@@ -1,2 +1,2 @@
-mod Choices
 mod Fits
+mod Lists

@@ -1,6 +1,6 @@
 //! The query of a SELECT, with its filter simplified.
 
-ghost use Rattle.std.specs.Prelude.{◌≡◌, IfOk};
+ghost use Rattle.std.specs.Prelude.{◌≡◌, ◌≤◌, false, length, IfOk, OnOk};
 ghost use Rattle.sa_simplify.specs.Simple.{IsWellTyped as IsTypedCond, simple};
 ghost use Rattle.sa_query.specs.Meaning.{does_group};
 ghost use Rattle.sa_query.specs.WellTyped.{IsWellTyped};
@@ -31,22 +31,34 @@ fn resolved(alloc: Global, tables: &Tables, tree: &SelectTree) -> Result<Query, 
     ensures fits { IfOk result (IsWellTyped tables.now) }
     ensures simplified { IfOk result (λ query. simple query.filter ≡ query.filter) }
 {
-    a_filter_is_well_typed();
     simple_is_typed();
     simple_names_no_more();
     simple_is_stable();
+    let query = written(alloc, tables, tree)?;
+    Ok(simplified(alloc, query)?)
+}
+
+/// The query as it is written.
+fn written(alloc: Global, tables: &Tables, tree: &SelectTree) -> Result<Query, Fail>
+    ensures { IfOk result (IsWellTyped tables.now) }
+{
+    a_filter_is_well_typed();
     match resolve(alloc, tree, tables) {
-        Ok(query) => {
-            if query.tables.len() == 0 {
-                return Err(Fail::new("no table"));
-            }
-            if groups(&query) {
-                return Err(Fail::new("a group"));
-            }
-            Ok(simplified(alloc, query)?)
-        }
+        Ok(query) => over_rows(query),
         Err(_) => Err(Fail::new("a fault")),
     }
+}
+
+/// The same query, where it has a table and groups nothing.
+fn over_rows(query: Query) -> Result<Query, Fail>
+    ensures same { IfOk result (λ same. same ≡ query) }
+    ensures some { OnOk result (1 ≤ length query.tables) }
+    ensures rows { OnOk result (does_group query ≡ false) }
+{
+    if query.tables.is_empty() || groups(&query) {
+        return Err(Fail::new("no rows"));
+    }
+    Ok(query)
 }
 
 /// Whether a query groups.

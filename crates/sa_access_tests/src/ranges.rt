@@ -23,11 +23,9 @@ pub(crate) fn range_lists(
     requires few { length query.now.tables ≤ 8 }
     ensures { IfOk result (λ lists. lists ≡ range_lists tables.now query.now) }
 {
-    let uses = query.tables.as_slice();
     let mut lists = RangeLists::new(alloc);
-    for position in 0..uses.len() {
-        let table = uses[position].table;
-        lists.push(table_ranges(alloc, tables, &query.filter, position as u32, table)?)?;
+    for (position, used) in query.tables.as_slice().iter().enumerate() {
+        lists.push(table_ranges(alloc, tables, &query.filter, position as u32, used.table)?)?;
     }
     Ok(lists)
 }
