@@ -27,11 +27,11 @@ fn ties_are_decided(rt: HostRuntime) -> Result<(), Fail> {
 /// No rows.
 const EMPTY: &str = "\
 no key | t a b | | SELECT b FROM t WHERE a = 1 | 0 | | ALL - - 20 0
-ALL before ref and range | t a b / KEY a | | SELECT b FROM t WHERE a = 1 | 0 | | ALL - - 20 0
+ref before range and ALL | t a b / KEY a | | SELECT b FROM t WHERE a = 1 | 0 | | ref 0 1 20 0
 ALL before the second key | t a b c / KEY c, KEY a | | SELECT b FROM t WHERE a = 1 | 0 | | ALL - - 20 0
-ALL before range, const costs a row | t a! b / UNIQUE a | | SELECT b FROM t WHERE a = 1 | 0 | | ALL - - 20 0
-ALL before range and index | t a / KEY a | | SELECT a FROM t WHERE a < 5 | 0 | | ALL - - 20 0
-ALL before index | t a / KEY a | | SELECT a FROM t | 0 | | ALL - - 20 0";
+const costs a row | t a! b / UNIQUE a | | SELECT b FROM t WHERE a = 1 | 0 | | range 0 1 20 0
+range before index and ALL | t a / KEY a | | SELECT a FROM t WHERE a < 5 | 0 | | range 0 1 20 0
+index before ALL | t a / KEY a | | SELECT a FROM t | 0 | | index 0 - 20 0";
 
 #[test]
 fn tables_may_be_empty(rt: HostRuntime) -> Result<(), Fail> {
